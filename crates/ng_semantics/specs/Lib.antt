@@ -1,0 +1,10 @@
+pub mod Text
+pub mod Declared
+pub mod Meaning
+pub mod Template
+pub mod Tree
+pub mod Html
+pub mod Events
+pub mod Run
+pub mod Lines
+pub mod First
