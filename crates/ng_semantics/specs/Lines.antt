@@ -36,18 +36,21 @@ line t = t ++ 10 ∷ []
 
 abbrev pub event_line : ℕ → Option Outcome → Text
 event_line k None = []
-event_line k (Some outcome) = line (codes "event " ++ decimal k ++ codes " " ++ outcome_text outcome)
+event_line k (Some outcome) = codes "event " ++ (decimal k ++ (codes " " ++ line (outcome_text outcome)))
+
+abbrev pub page_line : ℕ → Text
+page_line k = codes "page " ++ line (decimal k)
 
 -- The lines of the first pass, which is number 0, or of event k: the event's outcome, and then the page with its number.
 abbrev pub turn_lines : ℕ → Turn → Text
-turn_lines k t = event_line k t.outcome ++ line (codes "page " ++ decimal k) ++ line (html t.page)
+turn_lines k t = event_line k t.outcome ++ (page_line k ++ line (html t.page))
 
 abbrev pub lines_from : ℕ → List Turn → Text
 lines_from k [] = []
 lines_from k (t ∷ rest) = turn_lines k t ++ lines_from (k + 1) rest
 
 abbrev pub end_line : ℕ → Text
-end_line n = line (codes "end " ++ decimal n)
+end_line n = codes "end " ++ line (decimal n)
 
 -- All lines of the run of an application whose root is this component.
 abbrev pub lines : Component → List Event → Text
