@@ -2,9 +2,10 @@
 use Rattle.std.specs.Prelude.{◌≡◌, ℕ, zero, suc, ◌+◌, ◌<◌, max, ℤ, pos, Bool, true, false, List, [], ◌∷◌, map, refl}
 use Rattle.std.proofs.Common.{ap, sym, ◌∙◌, subst, arith}
 use denote.Param.Weighed.{most}
-use Rattle.std.specs.Cmp.{IsTotalOrder, on_total, then_total, nat_cmp_total, int_cmp_total, bool_cmp_total, tied_itself}
+use Rattle.std.specs.Bool.{one_answer}
+use Rattle.std.specs.Cmp.{IsTotalOrder, Equal-is, on_total, then_total, nat_cmp_total, int_cmp_total, bool_cmp_total, tied_itself}
 use Rattle.std.specs.Cmp.Lexicographic.{slice_cmp, lists_total, nat_list_cmp_total}
-use Rattle.std.specs.Ordering.{bool_cmp, int_cmp, nat_cmp, ordering_reverse, ordering_then, on, then_cmp, is_eq}
+use Rattle.std.specs.Ordering.{bool_cmp, int_cmp, nat_cmp, ordering_reverse, ordering_then, on, then_cmp, eq_by_cmp}
 use Rattle.std.specs.declared.cmp.Ordering.{Ordering}
 use Rattle.std.specs.declared.cmp.Ordering.TheVariants.{Less, Equal, Greater}
 use Rattle.std.proofs.lemmas.Map.Lookups.{exact_bytes, exact_signed}
@@ -13,8 +14,12 @@ use Rattle.ng_values.specs.declared.plain.Plain.TheOpen.{Plain-F}
 use Rattle.ng_values.specs.declared.plain.Plain.TheFolds.{map-Plain}
 use Rattle.ng_values.specs.declared.plain.Plain.TheVariants as p
 use Rattle.ng_values.specs.declared.plain.Plain.TheViews.{sized-List, sized-Rec, roll-out-Plain}
+use Rattle.ng_values.specs.declared.value.Value.{Value}
 use Rattle.ng_values.specs.Folded.{levels, levels_fold}
+use Rattle.ng_values.specs.Laws.{plain_inj}
 use Rattle.ng_values.specs.Order.{order, order_step, order_layer, rank}
+use Rattle.ng_values.specs.Same.{is_same, is_same_decides}
+use Rattle.ng_values.specs.View.{plain}
 
 -- the part that the order of each kind reads, and one and the same for every other kind
 abbrev truth_part : Plain-F Plain → Bool
@@ -226,3 +231,20 @@ order_exact d e same = exact_nth (suc (size-Plain d)) d e (omega arith) same
 -- a value is equal to itself
 pub order_itself : (d : Plain) → order d d ≡ Equal
 order_itself = tied_itself order_total
+
+-- the order of the values of a program
+abbrev pub value_cmp : Value → Value → Ordering
+value_cmp x y = order (plain x) (plain y)
+
+pub value_total : IsTotalOrder value_cmp
+value_total = on_total plain order_total
+
+-- values that are equal in the order are one value
+pub value_exact : (x y : Value) → value_cmp x y ≡ Equal → x ≡ y
+value_exact x y e = plain_inj x y (order_exact (plain x) (plain y) e)
+
+pub value_ties : (x y : Value) → is_same x y ≡ eq_by_cmp value_cmp x y
+value_ties x y =
+    let same = is_same_decides x y in
+    one_answer (is_same x y) (eq_by_cmp value_cmp x y)
+      (λ e. ap (value_cmp x) (sym (same.0 e)) ∙ order_itself (plain x), λ e. same.1 (value_exact x y e)) (Equal-is (value_cmp x y))

@@ -7,6 +7,37 @@ use crate::text::NgText;
 use crate::value::Value;
 use std::cmp::Ordering;
 
+impl PartialOrd for Value {
+    ghost use Rattle.std.specs.Prelude.{Some, refl};
+    ghost use Rattle.std.specs.Cmp.{partial_order_from_agreeing_total};
+    ghost use Rattle.ng_values.specs.OrderTotal.{value_cmp, value_total, value_ties};
+
+    ghost partial_cmp = { λ x y. Some (value_cmp x y) };
+
+    ghost laws = { partial_order_from_agreeing_total value_cmp value_total (λ x y. refl) value_ties };
+
+    fn partial_cmp(&self, other: &Value) -> Option<Ordering> {
+        Some(self.compare(other))
+    }
+}
+
+impl Ord for Value {
+    ghost use Rattle.std.specs.Prelude.{refl};
+    ghost use Rattle.ng_values.specs.OrderTotal.{value_cmp, value_total, value_ties};
+
+    ghost cmp = { value_cmp };
+
+    ghost total = { value_total };
+
+    ghost matches_partial_cmp = { λ x y. refl };
+
+    ghost matches_eq = { value_ties };
+
+    fn cmp(&self, other: &Value) -> Ordering {
+        self.compare(other)
+    }
+}
+
 impl Value {
     /// The order of two values, which is this project's own: by kind, in the order of the variants, and then by content. False is
     /// before true, numbers go by size, texts by bytes, lists item by item, records pair by pair with the key before the value; what
