@@ -4,7 +4,7 @@ use Rattle.std.specs.Cmp.Lexicographic.{slice_cmp}
 use Rattle.std.specs.Ordering.{nat_cmp, ordering_then}
 use Rattle.std.specs.declared.cmp.Ordering.{Ordering}
 use Rattle.std.specs.declared.cmp.Ordering.TheVariants.{Equal}
-use Rattle.ng_values.specs.declared.plain.Plain.{Plain, roll-Plain}
+use Rattle.ng_values.specs.declared.plain.Plain.{Plain}
 use Rattle.ng_values.specs.declared.plain.Plain.TheOpen.{Plain-F}
 use Rattle.ng_values.specs.declared.plain.Plain.TheFolds.{map-Plain}
 use Rattle.ng_values.specs.declared.plain.Plain.TheViews.{out-roll-Plain}

@@ -26,18 +26,22 @@ abbrev truth_part : Plain-F Plain → Bool
 truth_part (Plain-F.Bool b) = b
 truth_part _ = false
 
+-- the number of a number, and 0 of all else
 abbrev number_part : Plain-F Plain → ℤ
 number_part (Plain-F.Int z) = z
 number_part _ = pos 0
 
+-- the bytes of a text, and none of all else
 abbrev text_part : Plain-F Plain → List ℕ
 text_part (Plain-F.Text t) = t
 text_part _ = []
 
+-- the items of a list, and none of all else
 abbrev items_part : Plain-F Plain → List Plain
 items_part (Plain-F.List ds) = ds
 items_part _ = []
 
+-- the pairs of a record, and none of all else
 abbrev pairs_part : Plain-F Plain → List (List ℕ × Plain)
 pairs_part (Plain-F.Rec ps) = ps
 pairs_part _ = []
@@ -48,6 +52,7 @@ then_Equal Equal = refl
 then_Equal Greater = refl
 
 module _ (R : Plain → Plain → Ordering) where
+  -- pairs by their keys and then by their values
   abbrev pair_cmp : List ℕ × Plain → List ℕ × Plain → Ordering
   pair_cmp = then_cmp (on (λ q. q.0) (slice_cmp nat_cmp)) (on (λ q. q.1) R)
 
@@ -112,6 +117,7 @@ module _ (R : Plain → Plain → Ordering) where
   layer_is (Plain-F.Rec ps) (Plain-F.List es) = refl
   layer_is (Plain-F.Rec ps) (Plain-F.Rec qs) = pairs_alike ps qs
 
+-- the order of the first n levels
 abbrev nth_order : ℕ → Plain → Plain → Ordering
 nth_order = levels (λ d. Equal) order_step
 
@@ -247,4 +253,4 @@ pub value_ties : (x y : Value) → is_same x y ≡ eq_by_cmp value_cmp x y
 value_ties x y =
     let same = is_same_decides x y in
     one_answer (is_same x y) (eq_by_cmp value_cmp x y)
-      (λ e. ap (value_cmp x) (sym (same.0 e)) ∙ order_itself (plain x), λ e. same.1 (value_exact x y e)) (Equal-is (value_cmp x y))
+    (λ e. ap (value_cmp x) (sym (same.0 e)) ∙ order_itself (plain x), λ e. same.1 (value_exact x y e)) (Equal-is (value_cmp x y))

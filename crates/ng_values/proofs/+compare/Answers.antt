@@ -1,12 +1,11 @@
 use Rattle.std.proofs.Common.{◌≡◌, sym, ap, ◌∙◌, arith, nat_cmp, Less, Equal, Greater}
 use Rattle.std.specs.Ordering.{ordering_then}
-use Rattle.std.proofs.lemmas.Grind.{common_steps}
 use Rattle.ng_values.specs.Laws.{depth-List, depth-Rec}
 use Rattle.ng_values.specs.Measure.{depth, pair_depth, list_depth, rec_depth}
 use Rattle.ng_values.specs.Order.{order, order_pair, rank_of, content_of}
 use Rattle.ng_values.specs.OrderLaws.{order_is}
 use Rattle.ng_values.specs.View.{plain, plain_pair}
-use Rattle.ng_values.proofs.Steps.{left_step, left_end}
+use Rattle.ng_values.proofs.Steps.{left_end}
 use Rattle.ng_values.proofs.Sums.{largest_at}
 use Rattle.ng_values.proofs.+compare.Goals as goal
 
