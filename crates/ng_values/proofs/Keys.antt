@@ -1,21 +1,19 @@
 -- A binary search for a key among pairs in the order of their keys.
-use Rattle.std.proofs.Common.{◌≡◌, ℕ, zero, suc, ◌+◌, ◌<◌, ◌≤◌, Bool, true, false, cond, List, [], ◌∷◌, length, map, get_or, option_map, Some, None, Result, Ok, Err, refl, sym, ap, ◌∙◌, arith, Ordering, Less, Equal, Greater, nat_cmp}
+use Rattle.std.proofs.Common.{◌≡◌, ℕ, zero, suc, ◌+◌, ◌<◌, Bool, true, false, cond, List, [], ◌∷◌, length, get_or, option_map, Some, None, Result, Ok, Err, refl, sym, ap, ◌∙◌, arith, Ordering, Less, Equal, Greater, nat_cmp}
 use Rattle.std.specs.Cmp.Lexicographic.{slice_cmp, texts_ties, nat_list_eq_equiv, nat_list_cmp_total}
-use Rattle.std.specs.List.{HoldsAt, AllWithin}
+use Rattle.std.specs.List.{AllWithin}
 use Rattle.std.specs.List.Sorted.{IsSearchInRange, IsBinarySearchResult, IsNonDecreasingBy}
-use Rattle.std.specs.Map.{lookup}
 use Rattle.std.specs.Ordering.{is_eq, is_lt, ordering_index, ordering_reverse}
 use Rattle.std.proofs.lemmas.List.{get_or-map, length-map}
 use Rattle.std.proofs.lemmas.List.Sorted.{searchable_from_sorted}
 use Rattle.std.proofs.lemmas.Map.Keys.{Less-from_sorted, sorted_tail}
 use Rattle.std.proofs.lemmas.Map.Lookups.{exact_bytes}
-use Rattle.ng_values.specs.declared.plain.Plain.{Plain}
 use Rattle.ng_values.specs.declared.value.Value.{Value}
 use Rattle.ng_values.specs.declared.value.Value.TheVariants as v
 use Rattle.ng_values.specs.Inside.{KeysRise, keys_of}
 use Rattle.ng_values.specs.Keys.{FindsKey}
 use Rattle.ng_values.specs.Parts.{found_at, is_text}
-use Rattle.ng_values.specs.View.{plain, plain_pair, plain_pairs}
+use Rattle.ng_values.specs.View.{plain, plain_pairs}
 
 -- a test of two texts by their order
 tested : (k j : List ℕ) (o : Ordering) → slice_cmp nat_cmp j k ≡ o → is_text k j ≡ is_eq o
@@ -47,7 +45,7 @@ present k (q ∷ ps) (suc i) d rises within here =
 comparisons_rise : (k : List ℕ) (ps : List (List ℕ × Value)) → KeysRise ps → IsNonDecreasingBy (λ q. ordering_index (slice_cmp nat_cmp q.0 k)) ps
 comparisons_rise k ps rises =
     searchable_from_sorted nat_list_cmp_total (λ (q : List ℕ × Value). q.0) ps k
-      (λ i d low within. ap is_lt (nat_list_cmp_total.antisymm (get_or ps (i + 1) d).0 (get_or ps i d).0 ∙ ap ordering_reverse (in_order ps i (i + 1) d rises (omega arith) within)))
+    (λ i d low within. ap is_lt (nat_list_cmp_total.antisymm (get_or ps (i + 1) d).0 (get_or ps i d).0 ∙ ap ordering_reverse (in_order ps i (i + 1) d rises (omega arith) within)))
 
 pub finds_key : (k : List ℕ) (ps : List (List ℕ × Value)) (r : Result ℕ ℕ) → KeysRise ps → IsSearchInRange r (length ps) → IsBinarySearchResult (λ q. slice_cmp nat_cmp q.0 k) ps r → FindsKey k ps r
 finds_key k ps (Ok at) rises within equal = (within, present k ps at ([], v.Null) rises within (equal ([], v.Null)))

@@ -7,7 +7,7 @@ use Rattle.ng_values.specs.declared.value.Value.TheVariants as v
 use Rattle.ng_values.specs.declared.fault.Fault.{Fault}
 use Rattle.ng_values.specs.declared.fault.Fault.TheVariants.{NullRead, NoMember, WrongKind}
 use Rattle.ng_values.specs.Make.{list_of, rec_of}
-use Rattle.ng_values.specs.Parts.{count, is_text}
+use Rattle.ng_values.specs.Parts.{is_text}
 use Rattle.ng_values.specs.Same.{is_same}
 use Rattle.ng_values.specs.View.{plain, value_of}
 

@@ -1,5 +1,5 @@
 -- What a search for a key among the pairs of a record answers.
-use Rattle.std.specs.Prelude.{◌≡◌, ℕ, ◌<◌, List, [], length, slice_index_or, Option, Some, None, Result, Ok, Err}
+use Rattle.std.specs.Prelude.{◌≡◌, ℕ, ◌<◌, List, [], length, slice_index_or, Some, None, Result, Ok, Err}
 use Rattle.ng_values.specs.declared.value.Value.{Value}
 use Rattle.ng_values.specs.declared.value.Value.TheVariants as v
 use Rattle.ng_values.specs.Parts.{found_at}

@@ -1,5 +1,5 @@
 -- The operators that need numbers, and `<`.
-use Rattle.std.specs.Prelude.{ℤ, pos, ◌-ℤ◌, ◌*ℤ◌, int_div, int_rem, int_lt, Result, Ok, Err, if◌then◌else◌}
+use Rattle.std.specs.Prelude.{pos, ◌-ℤ◌, ◌*ℤ◌, int_div, int_rem, int_lt, Result, Ok, Err, if◌then◌else◌}
 use Rattle.std.specs.Ordering.{int_eq, is_lt, nat_cmp}
 use Rattle.std.specs.Cmp.Lexicographic.{slice_cmp}
 use Rattle.ng_values.specs.declared.value.Value.{Value}

@@ -50,7 +50,12 @@ fn call_of_list(alloc: Global, items: &[Value], name: &str, args: &[Value]) -> R
     }
 }
 
-fn call_of_rec(alloc: Global, pairs: &[(NgText, Value)], name: &str, args: &[Value]) -> Result<Value, Stop>
+fn call_of_rec(
+    alloc: Global,
+    pairs: &[(NgText, Value)],
+    name: &str,
+    args: &[Value],
+) -> Result<Value, Stop>
     ensures { Answers (if is_text name.now (codes "with") then key_replaced (plain_pairs pairs.now) (argument_of 0 args.now) (argument_of 1 args.now) else Err NoMember) result }
 {
     if name != "with" {
@@ -118,7 +123,12 @@ fn with_item(alloc: Global, items: &[Value], at: &Value, value: &Value) -> Resul
 }
 
 // The items with this one at a place.
-fn replaced(alloc: Global, items: &[Value], at: usize, value: &Value) -> Result<Vec<Value>, AllocError>
+fn replaced(
+    alloc: Global,
+    items: &[Value],
+    at: usize,
+    value: &Value,
+) -> Result<Vec<Value>, AllocError>
     requires { at < length items.now }
     ensures { IfOk result (λ out. plain_items out.items ≡ take at (plain_items items.now) ++ plain value.now ∷ drop (at + 1) (plain_items items.now)) }
 {
@@ -137,7 +147,12 @@ fn to_spliced(alloc: Global, items: &[Value], at: &Value, number: &Value) -> Res
     joined(alloc, front(items, at), rest(rest(items, at), number))
 }
 
-fn with_key(alloc: Global, pairs: &[(NgText, Value)], key: &Value, value: &Value) -> Result<Value, Stop>
+fn with_key(
+    alloc: Global,
+    pairs: &[(NgText, Value)],
+    key: &Value,
+    value: &Value,
+) -> Result<Value, Stop>
     ensures { Answers (key_replaced (plain_pairs pairs.now) key.now value.now) result }
 {
     match key {
@@ -147,7 +162,12 @@ fn with_key(alloc: Global, pairs: &[(NgText, Value)], key: &Value, value: &Value
 }
 
 // The pairs and one more.
-fn and_pair(alloc: Global, pairs: &[(NgText, Value)], key: &NgText, value: &Value) -> Result<Vec<(NgText, Value)>, AllocError>
+fn and_pair(
+    alloc: Global,
+    pairs: &[(NgText, Value)],
+    key: &NgText,
+    value: &Value,
+) -> Result<Vec<(NgText, Value)>, AllocError>
     ensures { IfOk result (λ out. plain_pairs out.items ≡ plain_pairs pairs.now ++ (key.now, plain value.now) ∷ []) }
 {
     let mut out = Vec::new(alloc);
@@ -181,14 +201,22 @@ fn append(out: &mut Vec<Value>, items: &[Value]) -> Result<(), AllocError>
 fn front(items: &[Value], number: usize) -> &[Value]
     ensures { plain_items result.now ≡ take number (plain_items items.now) }
 {
-    if number < items.len() { &items[..number] } else { items }
+    if number < items.len() {
+        &items[..number]
+    } else {
+        items
+    }
 }
 
 // What follows the first items of this number.
 fn rest(items: &[Value], number: usize) -> &[Value]
     ensures { plain_items result.now ≡ drop number (plain_items items.now) }
 {
-    if number < items.len() { &items[number..] } else { &items[items.len()..] }
+    if number < items.len() {
+        &items[number..]
+    } else {
+        &items[items.len()..]
+    }
 }
 
 // The first place of the value.

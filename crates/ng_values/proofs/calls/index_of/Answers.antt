@@ -1,12 +1,10 @@
-use Rattle.std.proofs.Common.{◌≡◌, ◌↔◌, IsTrue, ℕ, zero, suc, ◌+◌, ◌<◌, Bool, true, false, cond, List, [], ◌∷◌, length, get_or, drop, Some, refl, sym, ap, ◌∙◌, arith}
+use Rattle.std.proofs.Common.{◌≡◌, ◌↔◌, IsTrue, ℕ, zero, suc, ◌+◌, ◌<◌, Bool, true, false, cond, List, [], ◌∷◌, length, get_or, drop, Some, sym, ap, ◌∙◌, arith}
 use Rattle.std.specs.Bool.{one_answer}
-use Rattle.std.specs.List.{position_from}
-use Rattle.std.proofs.lemmas.List.{get_or_read}
 use Rattle.ng_values.specs.declared.value.Value.{Value}
 use Rattle.ng_values.specs.Calls.{place_of}
 use Rattle.ng_values.specs.Laws.{value_of-plain}
 use Rattle.ng_values.specs.Same.{is_same, is_same_decides}
-use Rattle.ng_values.specs.View.{plain, plain_items, value_of}
+use Rattle.ng_values.specs.View.{plain_items}
 use Rattle.ng_values.proofs.calls.index_of.Goals as goal
 
 -- one item of what is left to search

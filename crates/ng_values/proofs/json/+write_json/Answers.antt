@@ -37,11 +37,11 @@ write_pairs-loop-at-preserved t c =
 pub write_json-returns-in_ok-write_items-in-List : goal.write_json-returns-in_ok-write_items-in-List
 write_json-returns-in_ok-write_items-in-List t c =
     let shown : json (plain c.args.value.now) ≡ 91 ∷ with_commas (map json (plain_items c.items.result.now)) ++ 93 ∷ [] =
-        ap (λ w. json (plain w)) c.in-List.is ∙ json-List _ ∙ ap (λ vs. 91 ∷ with_commas (map json vs) ++ 93 ∷ []) (sym c.items.ensures) in
+    ap (λ w. json (plain w)) c.in-List.is ∙ json-List _ ∙ ap (λ vs. 91 ∷ with_commas (map json vs) ++ 93 ∷ []) (sym c.items.ensures) in
     subst (λ r. OnOk c.push-in-List.result (string_bytes c.push-in-List.new.self ≡ string_bytes c.args.out.now ++ r)) (sym shown) (grind (arith, common_steps))
 
 pub write_json-returns-in_ok-write_pairs-in-Rec : goal.write_json-returns-in_ok-write_pairs-in-Rec
 write_json-returns-in_ok-write_pairs-in-Rec t c =
     let shown : json (plain c.args.value.now) ≡ 123 ∷ with_commas (map json_pair (plain_pairs c.pairs.result.now)) ++ 125 ∷ [] =
-        ap (λ w. json (plain w)) c.in-Rec.is ∙ json-Rec _ ∙ ap (λ ps. 123 ∷ with_commas (map json_pair ps) ++ 125 ∷ []) (sym c.pairs.ensures.shown) in
+    ap (λ w. json (plain w)) c.in-Rec.is ∙ json-Rec _ ∙ ap (λ ps. 123 ∷ with_commas (map json_pair ps) ++ 125 ∷ []) (sym c.pairs.ensures.shown) in
     subst (λ r. OnOk c.push-in-Rec-2.result (string_bytes c.push-in-Rec-2.new.self ≡ string_bytes c.args.out.now ++ r)) (sym shown) (grind (arith, common_steps))
