@@ -1,0 +1,5 @@
+pub mod Feed
+pub mod Inside
+pub mod Names
+pub mod Same
+pub mod Texts
