@@ -19,5 +19,6 @@ inner_layer (TNode-F.For p head ts empty) = ts ++ optional_nodes empty
 inner_layer (TNode-F.Switch p e bs) = flat_map (λ b. b.nodes) bs
 inner_layer (TNode-F.Let p name e) = []
 
+-- the nodes directly inside a node
 abbrev pub inner : TNode → List TNode
 inner t = inner_layer (out-TNode t)

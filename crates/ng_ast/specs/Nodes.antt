@@ -18,6 +18,7 @@ all_nodes = flat_map node_and_inner
 abbrev pub branch_nodes : Branch → List TNode
 branch_nodes b = all_nodes b.nodes
 
+-- the sum of a list of numbers
 abbrev pub total : List ℕ → ℕ
 total [] = 0
 total (n ∷ ns) = n + total ns
