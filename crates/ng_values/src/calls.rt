@@ -66,8 +66,8 @@ fn call_of_rec(
     with_key(alloc, pairs, &key, &value)
 }
 
-// The argument at a place, or null.
-fn argument(args: &[Value], at: usize) -> Result<Value, AllocError>
+/// The argument at a place of a call, counted from 0, or null where it is missing.
+pub fn argument(args: &[Value], at: usize) -> Result<Value, AllocError>
     ensures { IfOk result (λ value. value ≡ argument_of at args.now) }
 {
     if at < args.len() {
@@ -77,7 +77,8 @@ fn argument(args: &[Value], at: usize) -> Result<Value, AllocError>
     }
 }
 
-fn natural(value: &Value) -> Result<usize, Fault>
+/// An argument as a number from 0 on: WrongKind for a number below 0 and for other kinds.
+pub fn natural(value: &Value) -> Result<usize, Fault>
     ensures { result ≡ natural_of value.now }
 {
     match value {
@@ -86,7 +87,8 @@ fn natural(value: &Value) -> Result<usize, Fault>
     }
 }
 
-fn natural_or(otherwise: usize, value: &Value) -> Result<usize, Fault>
+/// The same, where null stands for another number.
+pub fn natural_or(otherwise: usize, value: &Value) -> Result<usize, Fault>
     ensures { result ≡ natural_or_of otherwise value.now }
 {
     match value {

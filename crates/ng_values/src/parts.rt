@@ -36,8 +36,8 @@ pub fn member(_alloc: Global, of: &Value, name: &str) -> Result<Value, Stop>
     }
 }
 
-// The number of characters.
-fn characters(text: &str) -> usize
+/// The number of characters of a text, in time linear in its bytes.
+pub fn characters(text: &str) -> usize
     ensures value { result ≡ length (chars text.now) }
     ensures bound { result < 2 ^ 63 }
 {
