@@ -18,6 +18,7 @@ token_in (decl.Bootstrap p n e) = None
 abbrev pub tokens : App → List (List ℕ)
 tokens app = filter_map token_in app.decls
 
+-- the name of the environment that a declaration makes
 abbrev pub environment_in : Decl → Option (List ℕ)
 environment_in (decl.Component c) = None
 environment_in (decl.Service s) = None
@@ -30,12 +31,14 @@ environment_in (decl.Bootstrap p n e) = None
 abbrev pub declared_environments : App → List (List ℕ)
 declared_environments app = filter_map environment_in app.decls
 
+-- whether a name is `root`
 abbrev pub is_root : List ℕ → Bool
 is_root name = bytes_eq name (codes "root")
 
--- the environments, numbered from 0: those that are declared, and then `root` where it isn't among them
+-- names, and then `root` where it isn't among them
 abbrev pub with_root : List (List ℕ) → List (List ℕ)
 with_root names = if list_any is_root names then names else names ++ codes "root" ∷ []
 
+-- the environments, numbered from 0: those that are declared, and then `root` where it isn't declared
 abbrev pub environments : App → List (List ℕ)
 environments app = with_root (declared_environments app)

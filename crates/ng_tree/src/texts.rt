@@ -56,7 +56,11 @@ pub fn site_text(alloc: Global, site: &Site, names: &Names) -> Result<Vec<u8>, A
 fn provide_word(in_view: bool) -> &'static str
     ensures { result.now ≡ provide_word in_view }
 {
-    if in_view { " viewprovide " } else { " provide " }
+    if in_view {
+        " viewprovide "
+    } else {
+        " provide "
+    }
 }
 
 // The name with this number.
