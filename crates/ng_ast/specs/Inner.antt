@@ -1,5 +1,5 @@
 -- The nodes of a template as a plain tree: what stands directly inside a node.
-use Rattle.std.specs.Prelude.{◌≡◌, ℕ, zero, suc, ◌+◌, ◌<◌, List, [], ◌∷◌, ◌++◌, map, Option, Some, None, refl}
+use Rattle.std.specs.Prelude.{List, [], ◌++◌, Option, Some, None}
 use Rattle.std.specs.List.{flat_map}
 use Rattle.ng_ast.specs.declared.Branch.{Branch}
 use Rattle.ng_ast.specs.declared.TNode.{TNode, out-TNode}

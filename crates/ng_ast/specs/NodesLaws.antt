@@ -1,5 +1,5 @@
 -- The equations of the definitions of `Nodes`.
-use Rattle.std.proofs.Common.{◌≡◌, ℕ, zero, suc, ◌+◌, ◌<◌, List, [], ◌∷◌, ◌++◌, length, map, Option, Some, None, refl, ap, sym, ◌∙◌, arith, length-append, append_assoc}
+use Rattle.std.proofs.Common.{◌≡◌, ℕ, zero, suc, ◌+◌, ◌<◌, List, [], ◌∷◌, ◌++◌, length, map, Option, refl, ap, sym, ◌∙◌, arith, length-append, append_assoc}
 use Rattle.std.specs.List.{flat_map}
 use denote.Param.Weighed.{most}
 use Rattle.ng_values.specs.declared.text.NgText.{NgText}
@@ -13,7 +13,7 @@ use Rattle.ng_ast.specs.declared.TNode.{TNode, size-TNode}
 use Rattle.ng_ast.specs.declared.TNode.TheVariants as node
 use Rattle.ng_ast.specs.Inner.{inner, inner_layer, optional_nodes}
 use Rattle.ng_ast.specs.Nodes.{node_and_inner, all_nodes, branch_nodes, total, node_count, count}
-use Rattle.ng_ast.specs.Walked.{walked, walked_is, inner_deeper}
+use Rattle.ng_ast.specs.Walked.{walked_is, inner_deeper}
 
 flat_map-map : {X Y A : Type 0} (g : Y → List A) (f : X → Y) (xs : List X) → flat_map g (map f xs) ≡ flat_map (λ x. g (f x)) xs
 flat_map-map g f [] = refl

@@ -1,14 +1,14 @@
 -- A function of a node and all that stands inside it, from one step.
-use Rattle.std.specs.Prelude.{◌≡◌, ℕ, zero, suc, ◌+◌, ◌<◌, ◌≤◌, max, List, [], ◌∷◌, ◌++◌, map, Option, Some, None, refl}
+use Rattle.std.specs.Prelude.{◌≡◌, ℕ, zero, suc, ◌<◌, ◌≤◌, max, List, [], ◌∷◌, ◌++◌, map, Some, None, refl}
 use Rattle.std.specs.List.{flat_map}
-use Rattle.std.proofs.Common.{ap, sym, ◌∙◌, arith}
+use Rattle.std.proofs.Common.{ap, sym, arith}
 use denote.Param.Weighed.{most}
 use Rattle.ng_ast.specs.declared.Branch.{Branch}
 use Rattle.ng_ast.specs.declared.TNode.{TNode, out-TNode, roll-TNode, size-TNode}
 use Rattle.ng_ast.specs.declared.TNode.TheOpen.{TNode-F}
 use Rattle.ng_ast.specs.declared.TNode.TheVariants as node
 use Rattle.ng_ast.specs.declared.TNode.TheViews.{roll-out-TNode, sized-Element, sized-Text, sized-If, sized-For, sized-Switch, sized-Let, size-Branch, size_is-Branch}
-use Rattle.ng_ast.specs.Inner.{inner, inner_layer, optional_nodes}
+use Rattle.ng_ast.specs.Inner.{inner, inner_layer}
 
 -- The step has the node and what the nodes directly inside it give. The walk goes n levels deep, with `none` for what is deeper.
 module _ {A : Type 0} (none : A) (step : TNode → List A → A) where

@@ -1,5 +1,5 @@
-use Rattle.std.proofs.Common.{ap, ◌∙◌, sym, arith}
-use Rattle.ng_ast.specs.Nodes.{all_nodes, branch_nodes, node_and_inner}
+use Rattle.std.proofs.Common.{arith}
+use Rattle.ng_ast.specs.Nodes.{branch_nodes, node_and_inner}
 use Rattle.ng_ast.proofs.Finds.{starts, found_at, for_first, for_after}
 use Rattle.ng_ast.proofs.nodes.+find.Goals as goal
 
