@@ -42,7 +42,10 @@ fn template(alloc: Global) -> Result<Template, AllocError> {
     let mut inside = list(alloc, text(alloc, 10))?;
     inside.push(block(alloc)?)?;
     let tag = NgText::new(alloc, "p")?;
-    let mut nodes = list(alloc, TNode::Element(place(0), tag, Items::new(alloc), inside))?;
+    let mut nodes = list(
+        alloc,
+        TNode::Element(place(0), tag, Items::new(alloc), inside),
+    )?;
     nodes.push(text(alloc, 40))?;
     Ok(Template {
         place: place(0),
