@@ -1,0 +1,4 @@
+pub mod Inner
+pub mod Nodes
+pub mod NodesLaws
+pub mod Walked

@@ -1,0 +1,168 @@
+ghost use Rattle.std.specs.Prelude.{◌≡◌, IfOk};
+
+use crate::parts::{Part, copy_name, copy_parts};
+use crate::statements::copy_stmts;
+use crate::{
+    Aim, App, Component, Decl, Environment, Flag, Member, MemberKind, Pipe, Place, Provider,
+    Service,
+};
+use std::alloc::{AllocError, Global};
+
+impl App {
+    /// An equal application. Its own lists and boxes are made anew, and texts and values are shared,
+    /// so the cost is the number of its parts.
+    pub fn copy(&self, alloc: Global) -> Result<App, AllocError>
+        ensures { IfOk result (λ copy. copy ≡ self.now) }
+    {
+        let decls = copy_parts(alloc, &self.decls)?;
+        Ok(App { decls })
+    }
+}
+
+impl Provider {
+    fn copy(&self) -> Result<Provider, AllocError>
+        ensures { IfOk result (λ copy. copy ≡ self.now) }
+    {
+        match self {
+            Provider::Plain(token) => Ok(Provider::Plain(token.copy()?)),
+            Provider::Other(token, service) => {
+                Ok(Provider::Other(token.copy()?, service.copy()?))
+            }
+            Provider::Constant(token, value) => {
+                Ok(Provider::Constant(token.copy()?, value.copy()?))
+            }
+            Provider::From(token, other) => Ok(Provider::From(token.copy()?, other.copy()?)),
+        }
+    }
+}
+
+impl Part for (Place, Provider) {
+    fn copy_part(&self, _alloc: Global) -> Result<(Place, Provider), AllocError> {
+        Ok((self.0, self.1.copy()?))
+    }
+}
+
+impl Part for Flag {
+    fn copy_part(&self, _alloc: Global) -> Result<Flag, AllocError> {
+        Ok(*self)
+    }
+}
+
+impl Aim {
+    fn copy(&self) -> Result<Aim, AllocError>
+        ensures { IfOk result (λ copy. copy ≡ self.now) }
+    {
+        match self {
+            Aim::Component(name) => Ok(Aim::Component(name.copy()?)),
+            Aim::Reference(name) => Ok(Aim::Reference(name.copy()?)),
+        }
+    }
+}
+
+impl MemberKind {
+    fn copy(&self, alloc: Global) -> Result<MemberKind, AllocError>
+        ensures { IfOk result (λ copy. copy ≡ self.now) }
+    {
+        match self {
+            MemberKind::Field(value) => Ok(MemberKind::Field(value.copy()?)),
+            MemberKind::Signal(value) => Ok(MemberKind::Signal(value.copy()?)),
+            MemberKind::Getter(value) => Ok(MemberKind::Getter(value.copy(alloc)?)),
+            MemberKind::Method(params, body) => {
+                let params = copy_parts(alloc, params)?;
+                let body = copy_stmts(alloc, body.as_slice())?;
+                Ok(MemberKind::Method(params, body))
+            }
+            MemberKind::Init(body) => Ok(MemberKind::Init(copy_stmts(alloc, body.as_slice())?)),
+            MemberKind::Inject(token, flags) => {
+                let token = token.copy()?;
+                Ok(MemberKind::Inject(token, copy_parts(alloc, flags)?))
+            }
+            MemberKind::Input(required, start) => Ok(MemberKind::Input(*required, start.copy()?)),
+            MemberKind::Output => Ok(MemberKind::Output),
+            MemberKind::Provide(provider) => Ok(MemberKind::Provide(provider.copy()?)),
+            MemberKind::ViewProvide(provider) => Ok(MemberKind::ViewProvide(provider.copy()?)),
+            MemberKind::Query(kind, aim, descendants) => {
+                Ok(MemberKind::Query(*kind, aim.copy()?, *descendants))
+            }
+        }
+    }
+}
+
+impl Part for Member {
+    fn copy_part(&self, alloc: Global) -> Result<Member, AllocError> {
+        Ok(Member {
+            place: self.place,
+            name: self.name.copy()?,
+            kind: self.kind.copy(alloc)?,
+        })
+    }
+}
+
+impl Component {
+    fn copy(&self, alloc: Global) -> Result<Component, AllocError>
+        ensures { IfOk result (λ copy. copy ≡ self.now) }
+    {
+        Ok(Component {
+            place: self.place,
+            name: self.name.copy()?,
+            selector: self.selector.copy(alloc)?,
+            onpush: self.onpush,
+            members: copy_parts(alloc, &self.members)?,
+            template: self.template.copy(alloc)?,
+        })
+    }
+}
+
+impl Service {
+    fn copy(&self, alloc: Global) -> Result<Service, AllocError>
+        ensures { IfOk result (λ copy. copy ≡ self.now) }
+    {
+        Ok(Service {
+            place: self.place,
+            name: self.name.copy()?,
+            root: self.root,
+            members: copy_parts(alloc, &self.members)?,
+        })
+    }
+}
+
+impl Pipe {
+    fn copy(&self, alloc: Global) -> Result<Pipe, AllocError>
+        ensures { IfOk result (λ copy. copy ≡ self.now) }
+    {
+        Ok(Pipe {
+            place: self.place,
+            name: self.name.copy()?,
+            params: copy_parts(alloc, &self.params)?,
+            value: self.value.copy(alloc)?,
+        })
+    }
+}
+
+impl Environment {
+    fn copy(&self, alloc: Global) -> Result<Environment, AllocError>
+        ensures { IfOk result (λ copy. copy ≡ self.now) }
+    {
+        Ok(Environment {
+            place: self.place,
+            name: self.name.copy()?,
+            under: copy_name(&self.under)?,
+            provides: copy_parts(alloc, &self.provides)?,
+        })
+    }
+}
+
+impl Part for Decl {
+    fn copy_part(&self, alloc: Global) -> Result<Decl, AllocError> {
+        match self {
+            Decl::Component(component) => Ok(Decl::Component(component.copy(alloc)?)),
+            Decl::Service(service) => Ok(Decl::Service(service.copy(alloc)?)),
+            Decl::Pipe(pipe) => Ok(Decl::Pipe(pipe.copy(alloc)?)),
+            Decl::Environment(environment) => Ok(Decl::Environment(environment.copy(alloc)?)),
+            Decl::Token(place, name) => Ok(Decl::Token(*place, name.copy()?)),
+            Decl::Bootstrap(place, name, under) => {
+                Ok(Decl::Bootstrap(*place, name.copy()?, copy_name(under)?))
+            }
+        }
+    }
+}

@@ -1,0 +1,6 @@
+pub mod Feed
+pub mod Inside
+pub mod Names
+pub mod Order
+pub mod Same
+pub mod Texts
