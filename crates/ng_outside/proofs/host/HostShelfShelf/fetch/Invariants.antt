@@ -1,0 +1,15 @@
+use Rattle.std.proofs.Common.{◌-◌, ◌≤◌, vec_len}
+use Rattle.ng_outside.specs.Causes.{RoseBy}
+use Rattle.ng_outside.proofs.host.HostShelfShelf.fetch.Given as goal
+
+-- the bytes so far are within the limit and were counted, and no count fell
+abbrev pub invariant-loop-bytes : goal.invariant-loop-bytes
+invariant-loop-bytes g l =
+    (vec_len l.bytes ≤ l.limit)
+    × RoseBy (vec_len l.bytes) l.initial.self.read l.self.read
+    × (l.initial.self.read ≤ l.self.read)
+    × (l.initial.self.faults ≤ l.self.faults)
+
+-- each turn takes a byte, until the limit is passed
+abbrev pub decreases-loop-bytes : goal.decreases-loop-bytes
+decreases-loop-bytes g l = l.limit - vec_len l.bytes
