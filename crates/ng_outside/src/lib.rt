@@ -5,11 +5,14 @@
 
 mod files;
 mod host;
+mod memory;
+mod plan;
 mod shelf;
 mod sink;
 mod sure;
 
 pub use host::{HostShelf, HostSink};
+pub use memory::{MemShelf, MemSink};
 pub use shelf::{FetchError, Shelf};
 pub use sink::{Sink, SinkError};
 pub use sure::{SureShelf, SureSink};
