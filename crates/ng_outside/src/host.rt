@@ -1,4 +1,5 @@
-ghost use Rattle.std.specs.Prelude.{◌≡◌, ◌≤◌, length, IfOk, IfErr, OnErr, None};
+ghost use Rattle.std.specs.Prelude.{◌≡◌, ◌+◌, ◌<◌, ◌≤◌, ℕ, List, length, vec_len, IfOk, IfErr, IfSome, IsErrOf, OnErr, None};
+ghost use Rattle.std.specs.Io.KnownBytes.{ReadConsumes};
 ghost use Rattle.ng_outside.specs.Causes.{Rose, RoseBy};
 
 use crate::shelf::{FetchError, Shelf};
@@ -21,7 +22,10 @@ pub struct HostShelf<'a, R: Files> {
 
 impl<'a, R: Files> HostShelf<'a, R> {
     /// Makes a shelf over the files that this runtime reaches. A name is a path.
-    pub fn new(rt: &'a R) -> HostShelf<'a, R> {
+    pub fn new(rt: &'a R) -> HostShelf<'a, R>
+        ensures faults { (name : List ℕ) → ⟦<HostShelf<'a, R> as Shelf>⟧.faults result name ≡ 0 }
+        ensures read { ⟦<HostShelf<'a, R> as Shelf>⟧.read result ≡ 0 }
+    {
         HostShelf {
             rt,
             faults: 0,
@@ -29,9 +33,44 @@ impl<'a, R: Files> HostShelf<'a, R> {
         }
     }
 
+    // Reads a file to its end, or until it has given one byte more than the limit. Each turn takes at least one byte.
+    pub(crate) fn read_within<F: Read>(
+        &mut self,
+        alloc: Global,
+        file: &mut F,
+        limit: usize,
+    ) -> Result<Vec<u8>, FetchError>
+        ensures content { IfOk result (λ bytes. IfSome (F.remaining file.old) (λ content. bytes.items ≡ content)) }
+        ensures ok_within { IfOk result (λ bytes. vec_len bytes ≤ limit) }
+        ensures failed { IsErrOf result FetchError.Failed → Rose self.old.faults self.new.faults }
+        ensures too_long { IsErrOf result FetchError.TooLong →
+            IfSome (F.remaining file.old) (λ content. limit < length content) }
+        ensures read_past { IsErrOf result FetchError.TooLong → RoseBy (limit + 1) self.old.read self.new.read }
+        ensures read_grows { self.old.read ≤ self.new.read }
+        ensures faults_grow { self.old.faults ≤ self.new.faults }
+    {
+        let mut bytes = Vec::new(alloc);
+        let mut chunk = [0u8; CHUNK];
+        loop {
+            let room = limit - bytes.len();
+            let wanted = room.saturating_add(1).min(CHUNK);
+            let n = self.read_some(file, &mut chunk[..wanted])?;
+            if n == 0 {
+                return Ok(bytes);
+            }
+            if n > room {
+                return Err(FetchError::TooLong);
+            }
+            bytes
+                .extend_from_slice(&chunk[..n])
+                .map_err(|_| FetchError::Memory)?;
+        }
+    }
+
     // Reads from a file into the buffer, and counts what came and what failed.
-    fn read_some(&mut self, file: &mut R::File, buf: &mut [u8]) -> Result<usize, FetchError>
+    fn read_some<F: Read>(&mut self, file: &mut F, buf: &mut [u8]) -> Result<usize, FetchError>
         ensures within { IfOk result (λ n. n ≤ length buf.new) }
+        ensures bytes { ReadConsumes (F.remaining file.old) (F.remaining file.new) result buf.new }
         ensures counted { IfOk result (λ n. RoseBy n self.old.read self.new.read) }
         ensures read_grows { self.old.read ≤ self.new.read }
         ensures failed { IfErr result (λ e. e ≡ FetchError.Failed) }
@@ -67,24 +106,9 @@ impl<R: Files> Shelf for HostShelf<'_, R> {
     ghost read = { λ shelf. shelf.read };
 
     fn fetch(&mut self, alloc: Global, name: &str, limit: usize) -> Result<Vec<u8>, FetchError> {
-        let Ok(mut file) = fs::open(self.rt, name) else {
-            return Err(self.failed());
-        };
-        let mut bytes = Vec::new(alloc);
-        let mut chunk = [0u8; CHUNK];
-        loop {
-            let room = limit - bytes.len();
-            let wanted = room.saturating_add(1).min(CHUNK);
-            let n = self.read_some(&mut file, &mut chunk[..wanted])?;
-            if n == 0 {
-                return Ok(bytes);
-            }
-            if n > room {
-                return Err(FetchError::TooLong);
-            }
-            bytes
-                .extend_from_slice(&chunk[..n])
-                .map_err(|_| FetchError::Memory)?;
+        match fs::open(self.rt, name) {
+            Ok(mut file) => self.read_within(alloc, &mut file, limit),
+            Err(_) => Err(self.failed()),
         }
     }
 }
@@ -98,7 +122,9 @@ pub struct HostSink<'a, R: Print> {
 
 impl<'a, R: Print> HostSink<'a, R> {
     /// Makes a sink over this runtime's standard output.
-    pub fn new(rt: &'a R) -> HostSink<'a, R> {
+    pub fn new(rt: &'a R) -> HostSink<'a, R>
+        ensures { ⟦<HostSink<'a, R> as Sink>⟧.faults result ≡ 0 }
+    {
         HostSink { rt, faults: 0 }
     }
 }
