@@ -1,6 +1,7 @@
 -- What a sink has taken, where it says so.
-use Rattle.std.specs.Prelude.{◌≡◌, ℕ, List, [], ◌++◌, Option, Some, None, refl}
-use Rattle.std.proofs.Common.{ap}
+use Rattle.std.specs.Prelude.{◌≡◌, ℕ, ◌+◌, List, [], ◌++◌, take, drop, Option, Some, None, refl}
+use Rattle.std.proofs.Common.{ap, sym, ◌∙◌}
+use Rattle.std.proofs.Math.Seq.{take-add}
 use Rattle.std.proofs.lemmas.List.{append_assoc, append-nil}
 
 -- a piece behind what was taken: where that is known it stays known
@@ -18,3 +19,9 @@ appended-append (Some bytes) first second = ap Some (append_assoc bytes first se
 pub appended-nil : (known : Option (List ℕ)) → appended known [] ≡ known
 appended-nil None = refl
 appended-nil (Some bytes) = ap Some (append-nil bytes)
+
+-- the next part of some bytes behind the part before it
+pub appended-take : (known : Option (List ℕ)) (bytes : List ℕ) (done n : ℕ)
+    → appended (appended known (take done bytes)) (take n (drop done bytes)) ≡ appended known (take (done + n) bytes)
+appended-take known bytes done n =
+    appended-append known (take done bytes) (take n (drop done bytes)) ∙ ap (appended known) (sym (take-add done n bytes))
