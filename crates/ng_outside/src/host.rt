@@ -106,10 +106,10 @@ impl<R: Files> Shelf for HostShelf<'_, R> {
     ghost read = { λ shelf. shelf.read };
 
     fn fetch(&mut self, alloc: Global, name: &str, limit: usize) -> Result<Vec<u8>, FetchError> {
-        match fs::open(self.rt, name) {
-            Ok(mut file) => self.read_within(alloc, &mut file, limit),
-            Err(_) => Err(self.failed()),
-        }
+        let Ok(mut file) = fs::open(self.rt, name) else {
+            return Err(self.failed());
+        };
+        self.read_within(alloc, &mut file, limit)
     }
 }
 
