@@ -1,4 +1,4 @@
-ghost use Rattle.std.specs.Prelude.{◌≡◌, ◌+◌, ◌<◌, ◌≤◌, ℕ, List, length, vec_len, IfOk, IfErr, IfSome, IsErrOf, OnErr, None};
+ghost use Rattle.std.specs.Prelude.{◌≡◌, ◌+◌, ◌<◌, ◌≤◌, ℕ, List, length, vec_len, IfOk, IfErr, IfSome, MatchResult, IsErrOf, OnErr, None};
 ghost use Rattle.std.specs.Io.KnownBytes.{ReadConsumes};
 ghost use Rattle.ng_outside.specs.Causes.{Rose, RoseBy};
 
@@ -13,6 +13,9 @@ use std::rt::Files;
 const CHUNK: usize = 8192;
 
 /// The files of the machine. It says nothing of their content: what a file holds lies outside of any contract.
+///
+/// A file that cannot be opened, a directory, and a read that the system refuses are failures. One count of failures serves
+/// all names. A fetch reads at most one byte more than its limit.
 #[derive(Drop)]
 pub struct HostShelf<'a, R: Files> {
     rt: &'a R,
@@ -47,6 +50,7 @@ impl<'a, R: Files> HostShelf<'a, R> {
             IfSome (F.remaining file.old) (λ content. limit < length content) }
         ensures read_past { IsErrOf result FetchError.TooLong → RoseBy (limit + 1) self.old.read self.new.read }
         ensures read_grows { self.old.read ≤ self.new.read }
+        ensures read_within { self.new.read ≤ self.old.read + (limit + 1) }
         ensures faults_grow { self.old.faults ≤ self.new.faults }
     {
         let mut bytes = Vec::new(alloc);
@@ -73,6 +77,7 @@ impl<'a, R: Files> HostShelf<'a, R> {
         ensures bytes { ReadConsumes (F.remaining file.old) (F.remaining file.new) result buf.new }
         ensures counted { IfOk result (λ n. RoseBy n self.old.read self.new.read) }
         ensures read_grows { self.old.read ≤ self.new.read }
+        ensures no_more { MatchResult result (λ n. self.new.read ≤ self.old.read + n) (λ _. self.new.read ≡ self.old.read) }
         ensures failed { IfErr result (λ e. e ≡ FetchError.Failed) }
         ensures raised { OnErr result (Rose self.old.faults self.new.faults) }
         ensures faults_grow { self.old.faults ≤ self.new.faults }
@@ -114,6 +119,9 @@ impl<R: Files> Shelf for HostShelf<'_, R> {
 }
 
 /// The standard output of the program. It says nothing of what was taken: what a terminal shows lies outside of any contract.
+///
+/// Each put is one write of the system, without a buffer, so what it takes is written. A write that the system refuses, or of
+/// which it takes nothing, is a failure.
 #[derive(Drop)]
 pub struct HostSink<'a, R: Print> {
     rt: &'a R,

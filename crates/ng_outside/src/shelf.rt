@@ -30,7 +30,11 @@ pub trait Shelf {
 
     ghost read: { Self → ℕ };
 
-    /// Gives the file of this name, if it has at most `limit` bytes.
+    /// Gives the bytes of the file of this name, if they are at most `limit`.
+    ///
+    /// `Failed` comes only where the count of this name's failures rose in this call. `TooLong` comes where the told content
+    /// is longer than the limit, and of a file that is not told only where more bytes than the limit were read. Nothing is
+    /// promised of the counts of other names but that they don't fall.
     fn fetch(&mut self, alloc: Global, name: &str, limit: usize) -> Result<Vec<u8>, FetchError>
         // What comes is what was told, and never more than the limit.
         ensures content { IfOk result (λ bytes. IfSome (told self.old name.now) (λ content. bytes.items ≡ content)) }
@@ -43,7 +47,8 @@ pub trait Shelf {
 
         ensures failed { IsErrOf result FetchError.Failed → Rose (faults self.old name.now) (faults self.new name.now) }
 
-        // A told file is too long exactly where its content is longer than the limit, unless the fetch failed.
+        // Where no failure came, a told file is too long exactly where its content is longer than the limit, whether or not
+        // there is memory.
         ensures too_long_told { IsErrOf result FetchError.TooLong →
             IfSome (told self.old name.now) (λ content. limit < length content) }
         ensures too_long_always { IfSome (told self.old name.now) (λ content. limit < length content →

@@ -24,7 +24,9 @@ pub trait Sink {
 
     ghost faults: { Self → ℕ };
 
-    /// Takes the first bytes of a piece, and gives how many: at least one.
+    /// Takes the first bytes of a piece, and gives how many: at least one. After an error nothing was taken.
+    ///
+    /// `Failed` comes only where the count of failures rose in this call.
     fn put(&mut self, piece: &[u8]) -> Result<usize, SinkError>
         requires { 0 < length piece.now }
 

@@ -1,4 +1,4 @@
-ghost use Rattle.std.specs.Prelude.{◌≡◌, ℕ, List, [], Some, option_copied};
+ghost use Rattle.std.specs.Prelude.{◌≡◌, ℕ, List, [], Some};
 ghost use Rattle.ng_outside.specs.Files.{told_surely};
 
 use crate::files::content;
@@ -7,6 +7,8 @@ use crate::sink::{Sink, SinkError};
 use std::alloc::Global;
 
 /// A shelf in memory that never fails. A name that it doesn't hold has empty content.
+///
+/// A fetch goes over the files from the first on and copies one.
 #[derive(Drop)]
 pub struct SureShelf {
     files: Vec<(String, Vec<u8>)>,

@@ -1,4 +1,4 @@
-use Rattle.std.proofs.Common.{◌-◌, ◌≤◌, vec_len}
+use Rattle.std.proofs.Common.{◌+◌, ◌-◌, ◌≤◌, vec_len}
 use Rattle.std.specs.Io.KnownBytes.{Consumes}
 use Rattle.ng_outside.specs.Causes.{RoseBy}
 use Rattle.ng_outside.proofs.host.HostShelf.read_within.Given as goal
@@ -9,6 +9,7 @@ invariant-loop-bytes g l =
     (vec_len l.bytes ≤ l.limit)
     × RoseBy (vec_len l.bytes) l.initial.self.read l.self.read
     × (l.initial.self.read ≤ l.self.read)
+    × (l.self.read ≤ l.initial.self.read + vec_len l.bytes)
     × (l.initial.self.faults ≤ l.self.faults)
     × Consumes (g.F.Read.remaining l.initial.file) (g.F.Read.remaining l.file) l.bytes.items
 
