@@ -12,7 +12,7 @@ use Rattle.ng_tree.specs.declared.Site.TheVariants as site
 use Rattle.ng_tree.specs.declared.Step.{Step}
 use Rattle.ng_tree.specs.declared.Step.TheVariants as step
 
--- the how manieth row of its key, where it isn't the first: `#k`
+-- the place of a row among those with its key, where it isn't the first: `#k`
 abbrev pub occurrence_text : ℕ → List ℕ
 occurrence_text zero = []
 occurrence_text (suc k) = 35 ∷ decimal (suc k)

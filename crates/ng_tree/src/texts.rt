@@ -133,7 +133,7 @@ fn write_step(alloc: Global, out: &mut Vec<u8>, step: &Step) -> Result<(), Alloc
     }
 }
 
-// The how manieth row of its key it is, where it isn't the first.
+// The place of a row among those with its key, where it isn't the first.
 fn write_occurrence(out: &mut Vec<u8>, occurrence: u32) -> Result<(), AllocError>
     ensures { OnOk result (out.new.items ≡ out.old.items ++ occurrence_text occurrence) }
 {

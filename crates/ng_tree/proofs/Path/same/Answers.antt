@@ -1,7 +1,6 @@
-use Rattle.std.proofs.Common.{◌≡◌, sym, ◌∙◌, ap}
+use Rattle.std.proofs.Common.{◌≡◌}
 use Rattle.std.specs.Cmp.Lexicographic.{pointwise}
 use Rattle.std.proofs.lemmas.Slice.Eq.{slice_eq-Decides}
-use Rattle.ng_tree.specs.declared.Step.{Step}
 use Rattle.ng_tree.specs.Same.{is_same_step, is_same_step_decides}
 use Rattle.ng_tree.proofs.Path.same.Goals as goal
 
