@@ -55,7 +55,8 @@ impl Model for FlatEngine {
 }
 
 impl FlatEngine {
-    /// Starts an application, whose fields then hold their initial values.
+    /// Starts an application of the first form, whose fields then hold their initial values. The one error is want of
+    /// memory.
     pub fn start(alloc: Global, app: App) -> Result<FlatEngine, AllocError>
         requires first { (c : Component') × IsAlone app c × IsFirst c }
         ensures ok { IfOk result (Starts app) }
@@ -69,8 +70,10 @@ impl FlatEngine {
         })
     }
 
-    /// Clicks on the first element of a tag, in document order. Takes no memory. The cost is that of a walk over the
-    /// template, and for each statement of the listener of a search through the fields.
+    /// Clicks on the first element of a tag, in document order; the root's host, which has no listener, is the first of
+    /// all. The statements of the element's listener act one after another: the first fault ends them, and what was
+    /// written before it stays. Takes no memory. The cost is that of a walk over the template, and for each statement
+    /// of a search through the fields. Which element is meant and what a fault leaves are this project's own rules.
     pub fn click(&mut self, tag: &str) -> Delivered
         ensures outcome { outcome_in result ≡ (click_on self.old tag.now).outcome }
         ensures world { self.new.world ≡ (click_on self.old tag.now).world }
@@ -83,8 +86,9 @@ impl FlatEngine {
         click_in(nodes, tag, self.fields.as_mut_slice())
     }
 
-    /// The page over what the fields hold, as bytes. The cost is that of the bytes and, for each interpolation, of a
-    /// search through the fields.
+    /// The page over what the fields hold, as bytes of UTF-8. Texts are escaped (`&`, `<`, `>`) as the HTML Living
+    /// Standard serializes them. The one error is want of memory. The cost is that of the bytes and, for each
+    /// interpolation, of a search through the fields.
     pub fn page(&self) -> Result<Vec<u8>, AllocError>
         ensures { IfOk result (λ bytes. bytes.items ≡ html (page_of self.now)) }
     {
