@@ -7,7 +7,9 @@ ghost use Rattle.ng_pipes.specs.Pipes.{cased, part_of, made_text, measured, appl
 ghost use Rattle.ng_values.specs.Json.{json};
 ghost use Rattle.ng_values.specs.View.{plain};
 
-use ng_values::{Fault, NgText, Stop, Value, argument, characters, invoke, member, natural, natural_or};
+use ng_values::{
+    Fault, NgText, Stop, Value, argument, characters, invoke, member, natural, natural_or,
+};
 use std::alloc::{AllocError, Global};
 
 /// A pipe that every template has.
