@@ -1,0 +1,32 @@
+//! The program `ivy`: the call `ng_cli::ivy` over the machine's files and its standard output.
+#![tactic(auto)]
+
+use ng_cli::ivy;
+use ng_outside::{HostShelf, HostSink};
+use std::env;
+use std::io::{self, ErrorKind};
+use std::process::ExitCode;
+use std::rt::Env;
+
+// The words behind the program's name. Words that aren't text are as good as none.
+fn words(rt: &(impl Env + AllocGlobal)) -> io::Result<Vec<String>> {
+    let mut words = Vec::new(rt.alloc());
+    match env::args(rt) {
+        Ok(all) => {
+            for word in all.skip(1) {
+                words.push(word)?;
+            }
+            Ok(words)
+        }
+        Err(error) if error.kind() == ErrorKind::InvalidData => Ok(words),
+        Err(error) => Err(error),
+    }
+}
+
+fn main(rt: HostRuntime) -> io::Result<ExitCode> {
+    let words = words(&rt)?;
+    let mut shelf = HostShelf::new(&rt);
+    let mut sink = HostSink::new(&rt);
+    let status = ivy(rt.alloc(), words.as_slice(), &mut shelf, &mut sink);
+    Ok(ExitCode::from(status))
+}

@@ -1,0 +1,19 @@
+//! The program `ivy`: reads an application and a list of events, and prints the page after every event.
+#![tactic(auto)]
+
+mod inputs;
+mod lines;
+mod put;
+mod refusal;
+mod session;
+mod status;
+mod top;
+mod words;
+
+pub use inputs::Stop;
+pub use refusal::Refusal;
+pub use status::Status;
+pub use top::ivy;
+
+#[cfg(test)]
+mod tests;

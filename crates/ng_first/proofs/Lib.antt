@@ -1,0 +1,11 @@
+pub mod ByteLoops
+pub mod ClickLoop
+pub mod Exact
+pub mod File
+pub mod Loops
+pub mod Nodes
+pub mod Public
+pub mod Readings
+pub mod Rules
+pub mod Tokens
+pub mod Trees
