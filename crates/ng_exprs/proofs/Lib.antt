@@ -1,0 +1,12 @@
+pub mod Complete
+pub mod Sound
+pub mod Public
+pub mod Turns
+pub mod Steps
+pub mod Whole
+pub mod Closing
+pub mod LinesComplete
+pub mod LinesSound
+pub mod LinesPublic
+pub mod LineSteps
+pub mod LinesText

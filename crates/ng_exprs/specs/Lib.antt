@@ -1,0 +1,9 @@
+pub mod Grammar
+pub mod Limits
+pub mod Parse
+pub mod Gives
+pub mod Reading
+pub mod Ends
+pub mod Statements
+pub mod Lines
+pub mod Listening

@@ -1,0 +1,69 @@
+-- The grammar of statements and listeners. The truth value says whether the limits are kept: 256 tokens in each expression, 32 open brackets.
+use Rattle.std.specs.Prelude.{◌≡◌, ℕ, suc, ◌<◌, ◌≤◌, ◌⊎◌, Bool, true, false, List, [], ◌∷◌, ◌++◌, length}
+use Rattle.ng_ast.specs.declared.Place.{Place}
+use Rattle.ng_ast.specs.declared.Expr.{Expr}
+use Rattle.ng_ast.specs.declared.Owner.{Owner}
+use Rattle.ng_ast.specs.declared.Owner.TheVariants as o
+use Rattle.ng_ast.specs.declared.Stmt.{Stmt}
+use Rattle.ng_ast.specs.declared.Stmt.TheVariants as b
+use Rattle.ng_tokens.specs.declared.kinds.Sign.TheVariants as s
+use Rattle.ng_tokens.specs.declared.kinds.Kind.TheVariants as k
+use Rattle.ng_exprs.specs.Grammar.{Tokens, token, sign, start, ReadsPiped}
+use Rattle.ng_exprs.specs.Limits.{Within, opens}
+
+-- an expression of a statement, where so many brackets are open
+abbrev pub IsExpr : Bool → ℕ → Tokens → Expr → Type 0
+IsExpr false e x a = ReadsPiped x a
+IsExpr true e x a = ReadsPiped x a × (length x ≤ 256) × Within 32 e x
+
+-- so many brackets may be open
+abbrev pub IsOpen : Bool → ℕ → Type 0
+IsOpen false e = Unit {0}
+IsOpen true e = e ≤ 32
+
+-- one argument or several, with commas between
+pub data ReadsSomeArgs (l : Bool) (e : ℕ) : Tokens → List Expr → Type 0 where
+  last_arg : {x : Tokens} {a : Expr} → IsExpr l e x a → ReadsSomeArgs l e x (a ∷ [])
+  next_arg : {a : Expr} {es : List Expr} (x y : Tokens) (p : Place) → IsExpr l e x a → ReadsSomeArgs l e y es → ReadsSomeArgs l e (x ++ sign s.Comma p ∷ y) (a ∷ es)
+
+pub data ReadsArgs (l : Bool) (e : ℕ) : Tokens → List Expr → Type 0 where
+  no_arg : ReadsArgs l e [] []
+  some_args : {x : Tokens} {es : List Expr} → ReadsSomeArgs l e x es → ReadsArgs l e x es
+
+-- ( args? )
+pub data ReadsCall (l : Bool) (e : ℕ) : Tokens → List Expr → Type 0 where
+  call : {es : List Expr} (x : Tokens) (p q : Place) → IsOpen l (suc e) → ReadsArgs l (suc e) x es → ReadsCall l e (sign s.OpenRound p ∷ x ++ sign s.CloseRound q ∷ []) es
+
+-- an owner and the point after it
+pub data ReadsOwner (l : Bool) (e : ℕ) : Tokens → Owner → Type 0 where
+  named : (n : List ℕ) (p q : Place) → ReadsOwner l e (token (k.Name n) p ∷ sign s.Dot q ∷ []) (o.Name p n)
+  safe : (n : List ℕ) (p q : Place) → ReadsOwner l e (token (k.Name n) p ∷ sign s.SafeDot q ∷ []) (o.Safe p n)
+  apart : (n : List ℕ) (p q r : Place) → ReadsOwner l e (token (k.Name n) p ∷ sign s.Question q ∷ sign s.Dot r ∷ []) (o.Safe p n)
+  item : {a : Expr} (n : List ℕ) (x : Tokens) (p q r t : Place) → IsOpen l (suc e) → IsExpr l (suc e) x a
+      → ReadsOwner l e (token (k.Name n) p ∷ sign s.OpenSquare q ∷ x ++ sign s.CloseSquare r ∷ sign s.Dot t ∷ []) (o.Item p n a)
+
+-- a statement without `if`, and without its `;`
+pub data ReadsSimple (l : Bool) (e : ℕ) : Tokens → Stmt → Type 0 where
+  set : {a : Expr} (n : List ℕ) (x : Tokens) (p q : Place) → IsExpr l e x a → ReadsSimple l e (token (k.Name n) p ∷ sign s.Assign q ∷ x) (b.Set p n a)
+  run : {es : List Expr} (n : List ℕ) (x : Tokens) (p : Place) → ReadsCall l e x es → ReadsSimple l e (token (k.Name n) p ∷ x) (b.Do p n es)
+  send : {w : Owner} {es : List Expr} (n : List ℕ) (x y : Tokens) (p : Place) → ReadsOwner l e x w → ReadsCall l e y es → ReadsSimple l e (x ++ token (k.Name n) p ∷ y) (b.Send (start x) w n es)
+
+-- one statement or several, with `;` between; the last `;` may stand or not
+pub data ReadsListener (l : Bool) : Tokens → List Stmt → Type 0 where
+  last : {x : Tokens} {a : Stmt} → ReadsSimple l 0 x a → ReadsListener l x (a ∷ [])
+  ended : {a : Stmt} (x : Tokens) (p : Place) → ReadsSimple l 0 x a → ReadsListener l (x ++ sign s.Semicolon p ∷ []) (a ∷ [])
+  more : {a : Stmt} {others : List Stmt} (x y : Tokens) (p : Place) → ReadsSimple l 0 x a → ReadsListener l y others → ReadsListener l (x ++ sign s.Semicolon p ∷ y) (a ∷ others)
+
+-- ---- limits
+
+-- some tokens make these whole
+abbrev pub Begins : {A : Type 0} → (Tokens → A → Type 0) → Tokens → Type 0
+Begins {A} R ts = (more : Tokens) × (a : A) × R (ts ++ more) a
+
+-- an expression that has more than 256 tokens is begun at the end: after what stands before it, any expression may stand
+abbrev pub EndsLong : {A : Type 0} → (Tokens → A → Type 0) → Tokens → Type 0
+EndsLong R ts = (before x : Tokens) × (ts ≡ before ++ x) × (256 < length x) × Begins ReadsPiped x × ((y : Tokens) (a : Expr) → ReadsPiped y a → Begins R (before ++ y))
+
+-- some of the tokens at the front are begun, and pass a limit
+abbrev pub OverIn : {A : Type 0} → (Tokens → A → Type 0) → Tokens → Type 0
+OverIn R ts = (front rest : Tokens) × (ts ≡ front ++ rest) × Begins R front × ((32 < opens 0 front) ⊎ EndsLong R front)
