@@ -9,8 +9,8 @@ use Rattle.ng_tokens.specs.Scan.{scan}
 use Rattle.ng_tokens.proofs.Tokens as lex
 use Rattle.ng_exprs.specs.declared.halt.Halt.{Halt}
 use Rattle.ng_exprs.specs.declared.halt.Halt.TheVariants as h
-use Rattle.ng_exprs.specs.declared.error.ReadError.{ReadError}
-use Rattle.ng_exprs.specs.declared.error.ReadError.TheVariants as r
+use Rattle.ng_ast.specs.declared.refusals.ReadError.{ReadError}
+use Rattle.ng_ast.specs.declared.refusals.ReadError.TheVariants as r
 use Rattle.ng_exprs.specs.Gives.{Fails}
 use Rattle.ng_exprs.specs.Parse.{whole, turns}
 use Rattle.ng_exprs.specs.Grammar.{Tokens, ReadsPiped}

@@ -5,7 +5,7 @@ use Rattle.ng_ast.specs.declared.Stmt.{Stmt}
 use Rattle.ng_tokens.specs.declared.kinds.Token.{Token}
 use Rattle.ng_tokens.specs.Lexis.{Text, Lexes}
 use Rattle.ng_exprs.specs.declared.halt.Halt.{Halt}
-use Rattle.ng_exprs.specs.declared.error.ReadError.{ReadError}
+use Rattle.ng_ast.specs.declared.refusals.ReadError.{ReadError}
 use Rattle.ng_exprs.specs.Grammar.{Tokens}
 use Rattle.ng_exprs.specs.Limits.{opens}
 use Rattle.ng_exprs.specs.Statements.{ReadsListener, Begins, EndsLong, OverIn}

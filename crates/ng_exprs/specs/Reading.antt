@@ -6,9 +6,9 @@ use Rattle.ng_tokens.specs.declared.kinds.Token.{Token}
 use Rattle.ng_tokens.specs.Lexis.{Text, Lexes}
 use Rattle.ng_exprs.specs.declared.halt.Halt.{Halt}
 use Rattle.ng_exprs.specs.declared.halt.Halt.TheVariants as h
-use Rattle.ng_exprs.specs.declared.error.Rule.TheVariants as rule
-use Rattle.ng_exprs.specs.declared.error.ReadError.{ReadError}
-use Rattle.ng_exprs.specs.declared.error.ReadError.TheVariants as r
+use Rattle.ng_ast.specs.declared.refusals.Rule.TheVariants as rule
+use Rattle.ng_ast.specs.declared.refusals.ReadError.{ReadError}
+use Rattle.ng_ast.specs.declared.refusals.ReadError.TheVariants as r
 use Rattle.ng_exprs.specs.Grammar.{Tokens, ReadsPiped}
 use Rattle.ng_exprs.specs.Limits.{IsBegun, Passes, Over}
 

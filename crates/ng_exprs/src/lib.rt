@@ -2,7 +2,6 @@
 #![tactic(auto)]
 
 mod ends;
-mod error;
 mod halt;
 mod lines;
 mod listen;
@@ -17,10 +16,9 @@ ghost use Rattle.ng_exprs.specs.Grammar.{Tokens, ReadsPiped};
 ghost use Rattle.ng_exprs.specs.Reading.{IsNear, ReadsExpr, OverText, IsUnread, Refused, IsOrMemory, Answers, Tells, Scanned, AnswersText};
 
 pub use ends::end_of;
-pub use error::{ReadError, Refusal, Rule};
 use halt::Halt;
 pub use listen::{one_listener, read_listener};
-use ng_ast::{Expr, Place};
+use ng_ast::{Expr, Place, ReadError, Refusal, Rule};
 use ng_tokens::{ScanError, scan, steps};
 use ng_values::NgText;
 use std::alloc::{AllocError, Global};

@@ -6,11 +6,10 @@ ghost use Rattle.ng_ast.specs.declared.Stmt.{Stmt};
 ghost use Rattle.ng_exprs.specs.Reading.{IsNear, Refused, IsOrMemory};
 ghost use Rattle.ng_exprs.specs.Listening.{ReadsLines, OverLines, NoLines, AnswersListener, AnswersLines};
 
-use crate::error::ReadError;
 use crate::halt::Halt;
 use crate::tokens::Tokens;
 use crate::{lines, refused, tokens_of};
-use ng_ast::{Place, Stmt};
+use ng_ast::{Place, ReadError, Stmt};
 use sqlite_items::Items;
 use std::alloc::Global;
 

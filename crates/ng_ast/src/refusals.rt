@@ -2,7 +2,7 @@
 
 ghost use Rattle.std.specs.Prelude.{◌≡◌};
 
-use ng_ast::Place;
+use crate::Place;
 use ng_values::NgText;
 use std::alloc::{AllocError, AllocFailed};
 
@@ -61,7 +61,7 @@ pub enum ReadError {
 }
 
 impl From<AllocError> for ReadError {
-    ghost use Rattle.ng_exprs.specs.declared.error.ReadError.TheVariants.{Memory};
+    ghost use Rattle.ng_ast.specs.declared.refusals.ReadError.TheVariants.{Memory};
 
     ghost from_gives = { λ _ e. e ≡ Memory };
 
@@ -71,7 +71,7 @@ impl From<AllocError> for ReadError {
 }
 
 impl<T: Drop> From<AllocFailed<T>> for ReadError {
-    ghost use Rattle.ng_exprs.specs.declared.error.ReadError.TheVariants.{Memory};
+    ghost use Rattle.ng_ast.specs.declared.refusals.ReadError.TheVariants.{Memory};
 
     ghost from_gives = { λ _ e. e ≡ Memory };
 
