@@ -7,6 +7,10 @@ pub mod Whole
 pub mod Closing
 pub mod LinesComplete
 pub mod LinesSound
+pub mod Serving
+pub mod Phrases
 pub mod LinesPublic
 pub mod LineSteps
-pub mod LinesText
+pub mod BlocksComplete
+pub mod BlocksSound
+pub mod BlocksPublic

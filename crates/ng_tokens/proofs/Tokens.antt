@@ -30,7 +30,7 @@ begins_if : (b c : ℕ) (w t : Text) → (begins w t ≡ true → (r : Text) × 
 begins_if b c w t go true f g = let h : (r : Text) × (t ≡ w ++ r) = go g in (h.0, ap (λ z. c ∷ z) h.1 ∙ ap (λ z. z ∷ w ++ h.0) (sym (same_byte b c f)))
 begins_if b c w t go false f g = absurd (cc)
 
-begins_is : (w t : Text) → begins w t ≡ true → (r : Text) × (t ≡ w ++ r)
+pub begins_is : (w t : Text) → begins w t ≡ true → (r : Text) × (t ≡ w ++ r)
 begins_is [] t e = (t, refl)
 begins_is (b ∷ w) [] e = absurd (cc)
 begins_is (b ∷ w) (c ∷ t) e = begins_if b c w t (begins_is w t) (b == c) refl e
