@@ -13,7 +13,7 @@ use Rattle.ng_tokens.specs.declared.kinds.Kind.{Kind}
 use Rattle.ng_tokens.specs.declared.kinds.Kind.TheVariants as k
 use Rattle.ng_tokens.specs.declared.kinds.Token.{Token}
 use Rattle.ng_tokens.specs.Lexis.{begins, same_text}
-use Rattle.ng_tokens.proofs.Tokens as lex
+use Rattle.ng_tokens.proofs.SignTable.{begins_is}
 use Rattle.ng_exprs.specs.Grammar.{Tokens, token, sign, start}
 use Rattle.ng_exprs.specs.Parse.{Outcome, Parser, same, sign_of, peek, is_sign, limit}
 use Rattle.ng_exprs.specs.Statements.{IsExpr, IsOpen, ReadsSomeArgs, ReadsArgs, ReadsCall, ReadsOwner, ReadsSimple, ReadsTest, ReadsStmt, ReadsBlock, ReadsElse, ReadsStmts}
@@ -38,7 +38,7 @@ same_length m n e = grind arith
 pub word_is : (w v : List ℕ) → same_text w v ≡ true → w ≡ v
 word_is w v e =
     let f : (begins w v ≡ true) × ((length w == length v) ≡ true) = both_true (begins w v) (length w == length v) e in
-    let g : (t : List ℕ) × (v ≡ w ++ t) = lex.begins_is w v f.0 in
+    let g : (t : List ℕ) × (v ≡ w ++ t) = begins_is w v f.0 in
     nothing_more w g.0 (same_length (length w) (length v) f.1 ∙ ap length g.1) ∙ sym g.1
 
 brace_is : (same s.OpenBrace s.OpenBrace ≡ true) × (same s.CloseBrace s.CloseBrace ≡ true) × (same s.Semicolon s.Semicolon ≡ true) × (same s.Semicolon s.OpenBrace ≡ false)

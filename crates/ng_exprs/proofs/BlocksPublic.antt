@@ -12,7 +12,7 @@ use Rattle.ng_exprs.specs.Statements.{ReadsStmts, OverIn}
 use Rattle.ng_exprs.specs.Lines.{most}
 use Rattle.ng_exprs.specs.Blocks.{statements, body}
 use Rattle.ng_exprs.specs.Bodies.{ReadsWhole, AnswersStatements}
-use Rattle.ng_exprs.proofs.Sound.{Is}
+use Rattle.ng_exprs.proofs.Outcomes.{Is}
 use Rattle.ng_exprs.proofs.Serving.{serves_any, serves_exactly, serves_freely}
 use Rattle.ng_exprs.proofs.Phrases.{one_by, over_by, within_not}
 use Rattle.ng_exprs.proofs.LinesComplete.{GetsL, Serves}

@@ -18,7 +18,7 @@ use Rattle.ng_exprs.specs.Parse.{Limit, Outcome, Parser, same, peek, rest, is_si
 use Rattle.ng_exprs.specs.Statements.{IsExpr, IsOpen, ReadsSomeArgs, ReadsArgs, ReadsCall, ReadsSimple, ReadsTest, ReadsStmt, ReadsBlock, ReadsElse, ReadsStmts}
 use Rattle.ng_exprs.specs.Lines.{args, simple}
 use Rattle.ng_exprs.specs.Blocks.{is_word, sees_word, is_over, block, other, only, branch, branched, conditional, statement, statements, body}
-use Rattle.ng_exprs.proofs.Sound.{Is, explain, weaken, case_if, seen, expect_is}
+use Rattle.ng_exprs.proofs.Outcomes.{Is, explain, weaken, case_if, seen, expect_is}
 use Rattle.ng_exprs.proofs.LinesSound.{Read, Halted, halted_in, no_tail, Closes, args_sound, simple_sound, unlimited, unlimited_args}
 use Rattle.ng_exprs.proofs.BlocksComplete.{word_is}
 

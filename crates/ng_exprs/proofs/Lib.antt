@@ -1,4 +1,6 @@
 pub mod Complete
+pub mod Outcomes
+pub mod SoundOperands
 pub mod Sound
 pub mod Public
 pub mod Turns

@@ -10,7 +10,7 @@ use Rattle.ng_exprs.specs.Parse.{Syntax, Limit, turns}
 use Rattle.ng_exprs.specs.Statements.{ReadsListener, OverIn}
 use Rattle.ng_exprs.specs.Lines.{listener, most}
 use Rattle.ng_exprs.specs.Listening.{AnswersListener}
-use Rattle.ng_exprs.proofs.Sound.{Is}
+use Rattle.ng_exprs.proofs.Outcomes.{Is}
 use Rattle.ng_exprs.proofs.Serving.{serves_any, serves_exactly, serves_freely}
 use Rattle.ng_exprs.proofs.Phrases.{one_by, over_by, within_not}
 use Rattle.ng_exprs.proofs.LinesComplete.{GetsL, listener_gets}

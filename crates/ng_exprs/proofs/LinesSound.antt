@@ -16,7 +16,8 @@ use Rattle.ng_exprs.specs.Limits.{opens, Within}
 use Rattle.ng_exprs.specs.Parse.{Limit, Outcome, sign_of, peek, rest, is_sign, expect, name, turns, whole}
 use Rattle.ng_exprs.specs.Statements.{IsExpr, IsOpen, ReadsSomeArgs, ReadsArgs, ReadsCall, ReadsOwner, ReadsSimple, ReadsListener, Begins, EndsLong}
 use Rattle.ng_exprs.specs.Lines.{list_of, measured, args, set, run, send, apart, item, after_name, go_on, simple, is_last, listener}
-use Rattle.ng_exprs.proofs.Sound.{Took, Stuck, Is, Inside, explain, case_if, seen, expect_is, name_is, zero_tokens, zero_piped, sound}
+use Rattle.ng_exprs.proofs.Outcomes.{Took, Stuck, Is, Inside, explain, case_if, seen, expect_is, name_is, zero_tokens, zero_piped}
+use Rattle.ng_exprs.proofs.Sound.{sound}
 
 -- some tokens were read, and each of their brackets is closed
 pub record Read {A : Type 0} (R : Tokens → A → Type 0) (ts : Tokens) (a : A) (us : Tokens) : Type 0 where

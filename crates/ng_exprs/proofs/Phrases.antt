@@ -7,6 +7,7 @@ use Rattle.ng_ast.specs.declared.refusals.ReadError.TheVariants as r
 use Rattle.ng_tokens.specs.declared.kinds.Token.{Token}
 use Rattle.ng_tokens.specs.Lexis.{Text, Written, Lexes}
 use Rattle.ng_tokens.specs.Scan.{scan}
+use Rattle.ng_tokens.proofs.Pieces.{not_empty}
 use Rattle.ng_tokens.proofs.Tokens as lex
 use Rattle.ng_exprs.specs.declared.halt.Halt.{Halt}
 use Rattle.ng_exprs.specs.declared.halt.Halt.TheVariants as h
@@ -57,7 +58,7 @@ count : {c : Bool} {p : Place} {t : Text} {ts : List Token} {r : Text} → Lexes
 count Lexes.here = omega arith
 count (Lexes.blank f i) = omega (arith, count i)
 count (Lexes.comment a z o f i) = omega (arith, count i, length-append a z)
-count (Lexes.next a z form w small long o i) = long_token a z _ (λ e. lex.not_empty form (subst (λ v. Written v form) (sym e) w)) (count i)
+count (Lexes.next a z form w small long o i) = long_token a z _ (λ e. not_empty form (subst (λ v. Written v form) (sym e) w)) (count i)
 
 pub few_tokens : (c : Bool) (p : Place) (t : Text) (ts : List Token) → scan c 0 p t ≡ Some ts → length t ≤ 1048576 → length ts < 1048577
 few_tokens c p t ts e len = omega (arith, count (lex.sound c p t ts e), len)

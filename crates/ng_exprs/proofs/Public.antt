@@ -11,7 +11,8 @@ use Rattle.ng_exprs.specs.Grammar.{Tokens, ReadsPiped}
 use Rattle.ng_exprs.specs.Limits.{after, opens, Within, Passes, Over}
 use Rattle.ng_exprs.specs.Parse.{Syntax, Limit, Outcome, whole, turns}
 use Rattle.ng_exprs.proofs.Complete.{Gets, Ends, complete, complete_before}
-use Rattle.ng_exprs.proofs.Sound.{Stuck, Is, Inside, sound, weaken}
+use Rattle.ng_exprs.proofs.Outcomes.{Stuck, Is, Inside, weaken}
+use Rattle.ng_exprs.proofs.Sound.{sound}
 
 pub reads_of : (ts : Tokens) (a : Expr) → whole turns 33 ts ≡ Ok (a, []) → ReadsPiped ts a × Within 32 0 ts
 reads_of ts a e =

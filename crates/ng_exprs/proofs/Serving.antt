@@ -8,7 +8,8 @@ use Rattle.ng_exprs.specs.Limits.{opens, Within}
 use Rattle.ng_exprs.specs.Parse.{Syntax, Limit, Outcome, peek, whole, turns}
 use Rattle.ng_exprs.specs.Lines.{measured}
 use Rattle.ng_exprs.proofs.Complete.{Gets, Ends, extends_at, complete_before}
-use Rattle.ng_exprs.proofs.Sound.{Stuck, Is, Inside, sound}
+use Rattle.ng_exprs.proofs.Outcomes.{Stuck, Is, Inside}
+use Rattle.ng_exprs.proofs.Sound.{sound}
 use Rattle.ng_exprs.proofs.Public.{within_opens, no_longer, no_limit}
 use Rattle.ng_exprs.proofs.LinesComplete.{GetsL, Serves}
 
