@@ -16,7 +16,8 @@ use Rattle.ng_exprs.specs.Limits.{opens, Within}
 use Rattle.ng_exprs.specs.Parse.{Limit, Outcome, sign_of, peek, rest, is_sign, expect, name, turns, whole}
 use Rattle.ng_exprs.specs.Statements.{IsExpr, IsOpen, ReadsSomeArgs, ReadsArgs, ReadsCall, ReadsOwner, ReadsSimple, ReadsListener, Begins, EndsLong}
 use Rattle.ng_exprs.specs.Lines.{list_of, measured, args, set, run, send, apart, item, after_name, go_on, simple, is_last, listener}
-use Rattle.ng_exprs.proofs.Sound.{Took, Stuck, Is, Inside, explain, case_if, seen, expect_is, name_is, zero_tokens, zero_piped, sound}
+use Rattle.ng_exprs.proofs.Outcomes.{Took, Stuck, Is, Inside, explain, case_if, seen, expect_is, name_is, zero_tokens, zero_piped}
+use Rattle.ng_exprs.proofs.Sound.{sound}
 
 -- some tokens were read, and each of their brackets is closed
 pub record Read {A : Type 0} (R : Tokens → A → Type 0) (ts : Tokens) (a : A) (us : Tokens) : Type 0 where
@@ -51,7 +52,7 @@ passes_in R R' p c f wrap k counts d d' room text (inl h) = inl (λ m. rw (count
 passes_in R R' p c f wrap k counts d d' room text (inr h) = inr (long_in R R' p c f wrap text h)
 
 -- A limit in a part is one in the whole: p stands before the part, c makes the whole complete, and k counts the brackets of p.
-halted_in : {A B : Type 0} (R : Tokens → A → Type 0) (R' : Tokens → B → Type 0) (p c : Tokens) (f : A → B) → ((x : Tokens) (a : A) → R x a → R' (p ++ (x ++ c)) (f a)) → (k : ℕ → ℕ) → ((m : ℕ) (r : Tokens) → opens m (p ++ r) ≡ opens (k m) r)
+pub halted_in : {A B : Type 0} (R : Tokens → A → Type 0) (R' : Tokens → B → Type 0) (p c : Tokens) (f : A → B) → ((x : Tokens) (a : A) → R x a → R' (p ++ (x ++ c)) (f a)) → (k : ℕ → ℕ) → ((m : ℕ) (r : Tokens) → opens m (p ++ r) ≡ opens (k m) r)
     → (d d' : ℕ) → ((m : ℕ) → m + d' ≤ k m + d) → (ts us : Tokens) → us ≡ p ++ ts → Halted R d ts → Halted R' d' us
 halted_in R R' p c f wrap k counts d d' room ts us eq h = record {
   text = p ++ h.text;
@@ -118,7 +119,7 @@ measured_sound c e d eq ts =
 
 -- ---- arguments
 
-no_tail : {A : Type 0} (R : Tokens → A → Type 0) (p x : Tokens) (a : A) → R (p ++ x) a → R (p ++ (x ++ [])) a
+pub no_tail : {A : Type 0} (R : Tokens → A → Type 0) (p x : Tokens) (a : A) → R (p ++ x) a → R (p ++ (x ++ [])) a
 no_tail R p x a h = subst (λ z. R (p ++ z) a) (sym (append-nil x)) h
 
 list_sound : (c e d : ℕ) → e + d ≡ 32 → (j : ℕ) (ts : Tokens) → Is (Read (ReadsSomeArgs true e) ts) (Halted (ReadsSomeArgs false e) (suc d) ts) (list_of (measured turns 256 c d) j ts)
@@ -167,7 +168,7 @@ args_none : (c e : ℕ) (ts : Tokens) → Is (Closes e ts) (Halted (ReadsArgs fa
 unfolding args
 args_none c e ts = record { text = []; tail = ts; more = []; value = []; all = refl; reads = ReadsArgs.no_arg; passes = inl (λ m. omega arith) }
 
-args_sound : (c e d : ℕ) → e + d ≡ 32 → (ts : Tokens) → Is (Closes e ts) (Halted (ReadsArgs false (suc e)) d ts) (args turns 256 c d ts)
+pub args_sound : (c e d : ℕ) → e + d ≡ 32 → (ts : Tokens) → Is (Closes e ts) (Halted (ReadsArgs false (suc e)) d ts) (args turns 256 c d ts)
 args_sound c e zero eq ts = args_none c e ts
 args_sound c e (suc d) eq ts = args_by c e d (omega arith) ts
 
@@ -307,7 +308,7 @@ go_sound : (c e d : ℕ) → e + d ≡ 32 → (v : List ℕ) (p : Place) (ts : T
 go_sound c e d eq v p [] = tt
 go_sound c e d eq v p (t ∷ ts) = go_kind c e d eq v p t.kind t.place ts
 
-simple_sound : (c e d : ℕ) → e + d ≡ 32 → (ts : Tokens) → Goes e d ts (simple turns 256 c d ts)
+pub simple_sound : (c e d : ℕ) → e + d ≡ 32 → (ts : Tokens) → Goes e d ts (simple turns 256 c d ts)
 unfolding simple
 simple_sound c e d eq ts =
     explain (λ v us. (q : Place) × (ts ≡ token (k.Name v) q ∷ us)) ⊥ (Read (ReadsSimple true e) ts) (Halted (ReadsSimple false e) (suc d) ts) (name ts) _ (name_is ts)
@@ -320,7 +321,7 @@ unlimited_some : {e : ℕ} {x : Tokens} {es : List Expr} → ReadsSomeArgs true 
 unlimited_some (ReadsSomeArgs.last_arg h) = ReadsSomeArgs.last_arg h.0
 unlimited_some (ReadsSomeArgs.next_arg x y p h i) = ReadsSomeArgs.next_arg x y p h.0 (unlimited_some i)
 
-unlimited_args : {e : ℕ} {x : Tokens} {es : List Expr} → ReadsArgs true e x es → ReadsArgs false e x es
+pub unlimited_args : {e : ℕ} {x : Tokens} {es : List Expr} → ReadsArgs true e x es → ReadsArgs false e x es
 unlimited_args ReadsArgs.no_arg = ReadsArgs.no_arg
 unlimited_args (ReadsArgs.some_args h) = ReadsArgs.some_args (unlimited_some h)
 
@@ -333,7 +334,7 @@ unlimited_owner (ReadsOwner.safe n p q) = ReadsOwner.safe n p q
 unlimited_owner (ReadsOwner.apart n p q r) = ReadsOwner.apart n p q r
 unlimited_owner (ReadsOwner.item n x p q r t room h) = ReadsOwner.item n x p q r t tt h.0
 
-unlimited : {e : ℕ} {x : Tokens} {a : Stmt} → ReadsSimple true e x a → ReadsSimple false e x a
+pub unlimited : {e : ℕ} {x : Tokens} {a : Stmt} → ReadsSimple true e x a → ReadsSimple false e x a
 unlimited (ReadsSimple.set n x p q h) = ReadsSimple.set n x p q h.0
 unlimited (ReadsSimple.run n x p h) = ReadsSimple.run n x p (unlimited_call h)
 unlimited (ReadsSimple.send n x y p h i) = ReadsSimple.send n x y p (unlimited_owner h) (unlimited_call i)

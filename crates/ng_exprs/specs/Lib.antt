@@ -6,4 +6,7 @@ pub mod Reading
 pub mod Ends
 pub mod Statements
 pub mod Lines
+pub mod Blocks
+pub mod Phrases
 pub mod Listening
+pub mod Bodies

@@ -7,6 +7,7 @@ ghost use Rattle.ng_exprs.specs.Reading.{IsNear, Refused, IsOrMemory};
 ghost use Rattle.ng_exprs.specs.Listening.{ReadsLines, OverLines, NoLines, AnswersListener, AnswersLines};
 
 use crate::halt::Halt;
+use crate::lines::MOST;
 use crate::tokens::Tokens;
 use crate::{lines, refused, tokens_of};
 use ng_ast::{Place, ReadError, Stmt};
@@ -15,9 +16,6 @@ use std::alloc::Global;
 
 // The brackets that may be open.
 const DEPTH: usize = 32;
-
-// Above the count of the tokens of a text.
-const MOST: usize = 1048577;
 
 #[tactic(auto, unfolding(crate::specs::Lines::most))]
 fn read_tokens(alloc: Global, tokens: &mut Tokens) -> Result<Items<Stmt>, Halt>
@@ -61,7 +59,7 @@ pub fn read_listener(alloc: Global, text: &str, base: Place) -> Result<Items<Stm
     read_text(alloc, text, base)
 }
 
-/// A text that is a listener within the limits is no other listener.
+/// A text is one listener at most.
 pub fn one_listener()
-    ensures { (base : Place) (t : List ℕ) (a b : List Stmt) → ReadsLines true base t a → ReadsLines false base t b → a ≡ b }
+    ensures { (base : Place) (t : List ℕ) (a b : List Stmt) → ReadsLines false base t a → ReadsLines false base t b → a ≡ b }
 {}
