@@ -1,5 +1,5 @@
 -- What the nodes of a view evaluate in a pass, and the views that they show.
-use Rattle.std.specs.Prelude.{ℕ, zero, suc, ◌+◌, ◌%◌, pos, Bool, true, false, nat_eq, if◌then◌else◌, List, [], ◌∷◌, ◌++◌, map, length, count_by, Option, Some, None, Result, Ok, Err, codes, bytes_eq, find, unwrap_or}
+use Rattle.std.specs.Prelude.{ℕ, suc, ◌+◌, ◌%◌, pos, Bool, true, false, nat_eq, if◌then◌else◌, List, [], ◌∷◌, ◌++◌, map, length, count_by, Option, Some, None, Result, Ok, Err, codes, bytes_eq, find, unwrap_or}
 use Rattle.std.specs.List.{filter_map, list_any}
 use Rattle.std.specs.Map.{lookup}
 use Rattle.ng_values.specs.declared.plain.Plain.{Plain}
@@ -26,6 +26,7 @@ use Rattle.ng_tree.specs.declared.Step.TheVariants as step
 use Rattle.ng_tree.specs.declared.Item.{Item}
 use Rattle.ng_tree.specs.declared.Item.TheVariants as item
 use Rattle.ng_meaning.specs.Steps.{Steps, ◌>>=◌, pure, fail, get, all}
+use Rattle.ng_meaning.specs.Levels.{whole}
 use Rattle.ng_meaning.specs.Lists.{Text, look, change_at}
 use Rattle.ng_meaning.specs.Same.{same_value, same_path}
 use Rattle.ng_meaning.specs.World.{World, Read, value_or_null}
@@ -213,14 +214,9 @@ outlet_layer os inner OutletForm-F.Null s = pure None
 outlet_layer os inner (OutletForm-F.Name p name) s = pure (template_named name os)
 outlet_layer os inner (OutletForm-F.Choose p c a b) s = mean_value most_calls s c >>= (λ w. if truth w then inner a s else inner b s)
 
--- n levels of it; one more than its own size is enough
-abbrev pub outlet_within : Outlines → ℕ → OutletForm → Scope → Meaning (Option ℕ)
-outlet_within os zero o s = pure None
-outlet_within os (suc n) o s = outlet_layer os (outlet_within os n) (out-OutletForm o) s
-
 -- the `ng-template` that an outlet shows, by its number
 abbrev pub outlet_shown : Outlines → OutletForm → Scope → Meaning (Option ℕ)
-outlet_shown os o = outlet_within os (suc (size-OutletForm o)) o
+outlet_shown os = whole out-OutletForm size-OutletForm (λ s. pure None) (outlet_layer os)
 
 -- a context is null or a record
 abbrev pub context_value : Value → Meaning Value

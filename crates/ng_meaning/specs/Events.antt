@@ -29,6 +29,7 @@ use Rattle.ng_tree.specs.declared.Item.TheVariants as item
 use Rattle.ng_tree.specs.declared.PNode.{PNode, out-PNode, size-PNode}
 use Rattle.ng_tree.specs.declared.PNode.TheOpen.{PNode-F}
 use Rattle.ng_meaning.specs.Steps.{Steps, ◌>>=◌, ◌>>◌, pure, fail, change, get, each, all}
+use Rattle.ng_meaning.specs.Levels.{whole}
 use Rattle.ng_meaning.specs.Lists.{Text, look}
 use Rattle.ng_meaning.specs.Declared.{member, initial, is_output}
 use Rattle.ng_meaning.specs.Same.{same_value}
@@ -56,14 +57,9 @@ elements_layer inner (PNode-F.Element i tag attrs kids) = (tag, i) ∷ flat_map 
 elements_layer inner (PNode-F.Host i tag attrs kids) = (tag, i) ∷ flat_map inner kids
 elements_layer inner (PNode-F.Text i t) = []
 
--- n levels of a page; one more than its own size is enough
-abbrev pub elements_within : ℕ → PNode → List (Text × NodeId)
-elements_within zero p = []
-elements_within (suc n) p = elements_layer (elements_within n) (out-PNode p)
-
 -- the elements and hosts of a page in document order, each with its tag
 abbrev pub elements : PNode → List (Text × NodeId)
-elements p = elements_within (suc (size-PNode p)) p
+elements = whole out-PNode size-PNode [] elements_layer
 
 -- the identity of an element of this tag
 abbrev pub of_tag : Text → Text × NodeId → Option NodeId
@@ -287,26 +283,25 @@ module _ (app : App) (tree : Tree) where
       ws ← values_in f args
       send NullRead j name ws
 
-    -- a statement that was counted, given what those inside do: its operands are taken, and then it acts
-    abbrev pub act_layer : (Frame → Stmt → Act (Unit {0})) → Frame → Stmt-F Stmt → Act (Unit {0})
-    act_layer inner f (Stmt-F.Set p name e) = value_in f e >>= write f.own name
-    act_layer inner f (Stmt-F.Do p name args) = values_in f args >>= call_method f.own name
-    act_layer inner f (Stmt-F.Send p o name args) = send_owner f o name args
-    act_layer inner f (Stmt-F.If p c ss others) = value_in f c >>= (λ w. if truth w then each (inner f) ss else each (inner f) others)
+    -- what a statement does with its operands, given what those inside do
+    abbrev pub act_with : (Stmt → Frame → Act (Unit {0})) → Stmt-F Stmt → Frame → Act (Unit {0})
+    act_with inner (Stmt-F.Set p name e) f = value_in f e >>= write f.own name
+    act_with inner (Stmt-F.Do p name args) f = values_in f args >>= call_method f.own name
+    act_with inner (Stmt-F.Send p o name args) f = send_owner f o name args
+    act_with inner (Stmt-F.If p c ss others) f = value_in f c >>= (λ w. if truth w then each (λ s. inner s f) ss else each (λ s. inner s f) others)
 
-    -- n levels of a statement; one more than its own size is enough
-    abbrev pub act_within : ℕ → Frame → Stmt → Act (Unit {0})
-    act_within zero f s = pure tt
-    act_within (suc n) f s = counted >> act_layer (act_within n) f (out-Stmt s)
+    -- one level of a statement: it is counted, then its operands are taken, and then it acts
+    abbrev pub act_layer : (Stmt → Frame → Act (Unit {0})) → Stmt-F Stmt → Frame → Act (Unit {0})
+    act_layer inner l f = counted >> act_with inner l f
 
-    -- a statement: it is counted, then its operands are taken, and then it acts
-    abbrev pub act : Frame → Stmt → Act (Unit {0})
-    act f s = act_within (suc (size-Stmt s)) f s
+    -- a statement
+    abbrev pub act : Stmt → Frame → Act (Unit {0})
+    act = whole out-Stmt size-Stmt (λ f. pure tt) act_layer
 
   -- what the statements of a method or a listener do, where n calls may still be opened, it among them
   abbrev pub runner : ℕ → Runner
   runner zero = None
-  runner (suc n) = Some (λ f. each (act n (runner n) f))
+  runner (suc n) = Some (λ f. each (λ s. act n (runner n) s f))
 
   -- the listener that an event starts, which is the first open call
   abbrev pub listener_event : Trail → Node → Value → TAttr → Act (Unit {0})

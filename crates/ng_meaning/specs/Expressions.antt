@@ -35,6 +35,7 @@ use Rattle.ng_tree.specs.declared.Site.{Site}
 use Rattle.ng_tree.specs.declared.Item.{Item}
 use Rattle.ng_tree.specs.declared.Item.TheVariants as item
 use Rattle.ng_meaning.specs.Steps.{Steps, ◌>>=◌, ◌>>◌, pure, fail, change, all}
+use Rattle.ng_meaning.specs.Levels.{whole}
 use Rattle.ng_meaning.specs.Lists.{Text, look}
 use Rattle.ng_meaning.specs.Declared.{pipe, member}
 use Rattle.ng_meaning.specs.Same.{same_value}
@@ -263,24 +264,49 @@ abbrev pub Chain : Type 0
 Chain = Meaning (Option Item)
 
 -- a chain that has an item
-abbrev pub whole : Meaning Item → Chain
-whole m = m >>= (λ i. pure (Some i))
+abbrev pub whole_item : Meaning Item → Chain
+whole_item m = m >>= (λ i. pure (Some i))
 
 -- what follows in a chain
 abbrev pub go_on : (Item → Meaning Item) → Option Item → Chain
 go_on f None = pure None
-go_on f (Some i) = whole (f i)
+go_on f (Some i) = whole_item (f i)
 
 -- what follows after `?.`
 abbrev pub go_on_safely : (Item → Meaning Item) → Option Item → Chain
 go_on_safely f None = pure None
-go_on_safely f (Some i) = if is_null i then pure None else whole (f i)
+go_on_safely f (Some i) = if is_null i then pure None else whole_item (f i)
+
+-- An operator, by what its operands mean. `&&`, `||` and `??` evaluate only the part that they give; the others take both operands.
+abbrev pub combined : Binary → Meaning Item → Meaning Item → Meaning Item
+combined binary.And a b = do
+  i ← a
+  w ← need i
+  if truth w then b else pure i
+combined binary.Or a b = do
+  i ← a
+  w ← need i
+  if truth w then pure i else b
+combined binary.OrNull a b = do
+  i ← a
+  if is_null i then b else pure i
+combined op a b = do
+  i ← a
+  j ← b
+  x ← need i
+  y ← need j
+  answer (operated op x y)
+
+-- a pipe, given the declared one of that name, which hides a built-in one
+abbrev pub pipe_call : Bodies → Scope → Text → Option Pipe → List Value → Meaning Item
+pipe_call bodies s name None ws = answer (piped (builtin_pipe name) ws)
+pipe_call bodies s name (Some p) ws = called bodies (only s (zip p.params (map item.Value ws))) p.value
 
 -- Given what bodies and the parts of an expression mean.
-module _ (bodies : Bodies) (chain : Scope → Expr → Chain) where
+module _ (bodies : Bodies) (chain : Expr → Scope → Chain) where
   -- a part that is no chain to go on with
   abbrev pub mean_part : Scope → Expr → Meaning Item
-  mean_part s e = chain s e >>= (λ i. pure (or_null i))
+  mean_part s e = chain e s >>= (λ i. pure (or_null i))
 
   -- parts from left to right, and then their values
   abbrev pub mean_values : Scope → List Expr → Meaning (List Value)
@@ -290,62 +316,36 @@ module _ (bodies : Bodies) (chain : Scope → Expr → Chain) where
   abbrev pub mean_truth : Scope → Expr → Meaning Bool
   mean_truth s e = mean_part s e >>= need >>= (λ w. pure (truth w))
 
-  -- `&&`, `||` and `??` evaluate only the part that they give; the others take both operands.
-  abbrev pub mean_binary : Scope → Binary → Expr → Expr → Meaning Item
-  mean_binary s binary.And a b = do
-    i ← mean_part s a
-    w ← need i
-    if truth w then mean_part s b else pure i
-  mean_binary s binary.Or a b = do
-    i ← mean_part s a
-    w ← need i
-    if truth w then pure i else mean_part s b
-  mean_binary s binary.OrNull a b = do
-    i ← mean_part s a
-    if is_null i then mean_part s b else pure i
-  mean_binary s op a b = do
-    i ← mean_part s a
-    j ← mean_part s b
-    x ← need i
-    y ← need j
-    answer (operated op x y)
-
-  -- a pipe, given the declared one of that name, which hides a built-in one
-  abbrev pub pipe_call : Scope → Text → Option Pipe → List Value → Meaning Item
-  pipe_call s name None ws = answer (piped (builtin_pipe name) ws)
-  pipe_call s name (Some p) ws = called bodies (only s (zip p.params (map item.Value ws))) p.value
-
   -- a call, which stands after a name, `.name` or `?.name`
-  abbrev pub mean_call : Scope → Expr-F Expr → List Expr → Chain
-  mean_call s (Expr-F.Name p name) args = whole (own_signal s s.own name)
-  mean_call s (Expr-F.Member p a name) args = chain s a >>= go_on (λ i. all (mean_part s) args >>= item_call s i name)
-  mean_call s (Expr-F.Safe p a name) args = chain s a >>= go_on_safely (λ i. all (mean_part s) args >>= item_call s i name)
-  mean_call s _ args = fail NoMember
+  abbrev pub mean_call : Expr-F Expr → List Expr → Scope → Chain
+  mean_call (Expr-F.Name p name) args s = whole_item (own_signal s s.own name)
+  mean_call (Expr-F.Member p a name) args s = chain a s >>= go_on (λ i. all (mean_part s) args >>= item_call s i name)
+  mean_call (Expr-F.Safe p a name) args s = chain a s >>= go_on_safely (λ i. all (mean_part s) args >>= item_call s i name)
+  mean_call _ args s = fail NoMember
 
   -- one level of an expression
-  abbrev pub mean_level : Scope → Expr-F Expr → Chain
-  mean_level s (Expr-F.Literal p w) = whole (value w)
-  mean_level s (Expr-F.Name p name) = whole (name_item bodies s name)
-  mean_level s (Expr-F.Group p a) = whole (mean_part s a)
-  mean_level s (Expr-F.List p es) = whole (mean_values s es >>= (λ ws. answer (list_of (map plain ws))))
-  mean_level s (Expr-F.Rec p qs) = whole (mean_values s (map (λ q. q.1) qs) >>= (λ ws. answer (rec_of (zip (map (λ q. q.0) qs) (map plain ws)))))
-  mean_level s (Expr-F.Unary p op a) = whole (mean_part s a >>= need >>= (λ w. answer (prefixed op w)))
-  mean_level s (Expr-F.Binary p op a b) = whole (mean_binary s op a b)
-  mean_level s (Expr-F.Choose p c a b) = whole (mean_truth s c >>= (λ t. if t then mean_part s a else mean_part s b))
-  mean_level s (Expr-F.Member p a name) = chain s a >>= go_on (λ i. item_member bodies s i name)
-  mean_level s (Expr-F.Safe p a name) = chain s a >>= go_on_safely (λ i. item_member bodies s i name)
-  mean_level s (Expr-F.Index p a b) = chain s a >>= go_on (λ i. mean_part s b >>= item_index i)
-  mean_level s (Expr-F.Call p a args) = mean_call s (out-Expr a) args
-  mean_level s (Expr-F.Pipe p a name args) = whole (mean_values s (a ∷ args) >>= pipe_call s name (pipe s.app name))
+  abbrev pub mean_level : Expr-F Expr → Scope → Chain
+  mean_level (Expr-F.Literal p w) s = whole_item (value w)
+  mean_level (Expr-F.Name p name) s = whole_item (name_item bodies s name)
+  mean_level (Expr-F.Group p a) s = whole_item (mean_part s a)
+  mean_level (Expr-F.List p es) s = whole_item (mean_values s es >>= (λ ws. answer (list_of (map plain ws))))
+  mean_level (Expr-F.Rec p qs) s = whole_item (mean_values s (map (λ q. q.1) qs) >>= (λ ws. answer (rec_of (zip (map (λ q. q.0) qs) (map plain ws)))))
+  mean_level (Expr-F.Unary p op a) s = whole_item (mean_part s a >>= need >>= (λ w. answer (prefixed op w)))
+  mean_level (Expr-F.Binary p op a b) s = whole_item (combined op (mean_part s a) (mean_part s b))
+  mean_level (Expr-F.Choose p c a b) s = whole_item (mean_truth s c >>= (λ t. if t then mean_part s a else mean_part s b))
+  mean_level (Expr-F.Member p a name) s = chain a s >>= go_on (λ i. item_member bodies s i name)
+  mean_level (Expr-F.Safe p a name) s = chain a s >>= go_on_safely (λ i. item_member bodies s i name)
+  mean_level (Expr-F.Index p a b) s = chain a s >>= go_on (λ i. mean_part s b >>= item_index i)
+  mean_level (Expr-F.Call p a args) s = mean_call (out-Expr a) args s
+  mean_level (Expr-F.Pipe p a name args) s = whole_item (mean_values s (a ∷ args) >>= pipe_call bodies s name (pipe s.app name))
 
--- n levels of an expression; one more than its own size is enough
-abbrev pub mean_within : Bodies → ℕ → Scope → Expr → Chain
-mean_within bodies zero s e = pure None
-mean_within bodies (suc n) s e = mean_level bodies (mean_within bodies n) s (out-Expr e)
+-- what an expression means as a chain to go on with, given what bodies mean
+abbrev pub mean_chain : Bodies → Expr → Scope → Chain
+mean_chain bodies = whole out-Expr size-Expr (λ s. pure None) (mean_level bodies)
 
--- all levels of an expression, given what bodies mean
+-- what an expression means, given what bodies mean
 abbrev pub mean_with : Bodies → Scope → Expr → Meaning Item
-mean_with bodies s e = mean_part bodies (mean_within bodies (suc (size-Expr e))) s e
+mean_with bodies = mean_part bodies (mean_chain bodies)
 
 -- what bodies mean, where n calls may still be opened
 abbrev pub bodies : ℕ → Bodies

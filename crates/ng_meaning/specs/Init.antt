@@ -1,5 +1,5 @@
 -- What an `init` does: it sets own fields and signals, under conditions.
-use Rattle.std.specs.Prelude.{ℕ, zero, suc, if◌then◌else◌, List, [], Some}
+use Rattle.std.specs.Prelude.{if◌then◌else◌, List, [], Some}
 use Rattle.ng_values.specs.declared.value.Value.{Value}
 use Rattle.ng_values.specs.declared.fault.Fault.{Fault}
 use Rattle.ng_values.specs.Calls.{argument}
@@ -15,6 +15,7 @@ use Rattle.ng_ast.specs.declared.MemberKind.{MemberKind}
 use Rattle.ng_ast.specs.declared.MemberKind.TheVariants as kind
 use Rattle.ng_tree.specs.declared.Site.{Site}
 use Rattle.ng_meaning.specs.Steps.{Steps, ◌>>=◌, pure, change, each, all}
+use Rattle.ng_meaning.specs.Levels.{whole}
 use Rattle.ng_meaning.specs.Lists.{Text}
 use Rattle.ng_meaning.specs.World.{World, written}
 use Rattle.ng_meaning.specs.Expressions.{Scope, mean_value, most_calls, no_effects}
@@ -45,14 +46,9 @@ module _ (app : App) (at : Site) where
   init_layer inner (Stmt-F.If p c body other) = init_value c >>= (λ w. if truth w then each inner body else each inner other)
   init_layer inner (Stmt-F.Do p name args) = pure tt
 
-  -- n levels of a statement; one more than its own size is enough
-  abbrev pub init_within : ℕ → Stmt → Setting (Unit {0})
-  init_within zero s = pure tt
-  init_within (suc n) s = init_layer (init_within n) (out-Stmt s)
-
   -- the statements of an `init`, one after another
   abbrev pub init_body : List Stmt → Setting (Unit {0})
-  init_body = each (λ s. init_within (suc (size-Stmt s)) s)
+  init_body = each (whole out-Stmt size-Stmt (pure tt) init_layer)
 
   -- the `init` that a member is
   abbrev pub init_of : MemberKind → Setting (Unit {0})

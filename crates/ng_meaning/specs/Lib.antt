@@ -1,4 +1,5 @@
 pub mod Steps
+pub mod Levels
 pub mod Lists
 pub mod Declared
 pub mod Same
@@ -21,3 +22,4 @@ pub mod Events
 pub mod Runs
 pub mod Lines
 pub mod Compute
+pub mod Laws

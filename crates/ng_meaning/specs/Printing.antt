@@ -1,8 +1,9 @@
 -- How a page is printed.
-use Rattle.std.specs.Prelude.{ℕ, zero, suc, ◌==◌, if◌then◌else◌, List, [], ◌∷◌, ◌++◌, codes}
+use Rattle.std.specs.Prelude.{ℕ, ◌==◌, if◌then◌else◌, List, [], ◌∷◌, ◌++◌, codes}
 use Rattle.std.specs.List.{flat_map}
 use Rattle.ng_tree.specs.declared.PNode.{PNode, out-PNode, size-PNode}
 use Rattle.ng_tree.specs.declared.PNode.TheOpen.{PNode-F}
+use Rattle.ng_meaning.specs.Levels.{whole}
 use Rattle.ng_meaning.specs.Lists.{Text, has_text}
 
 -- a byte of a text
@@ -49,11 +50,6 @@ html_layer html (PNode-F.Element i tag attrs kids) = element_text tag attrs (fla
 html_layer html (PNode-F.Host i tag attrs kids) = element_text tag attrs (flat_map html kids)
 html_layer html (PNode-F.Text i t) = escaped t
 
--- n levels of a page; one more than its own size is enough
-abbrev pub html_within : ℕ → PNode → Text
-html_within zero p = []
-html_within (suc n) p = html_layer (html_within n) (out-PNode p)
-
 -- the bytes of a page
 unfoldable pub html : PNode → Text
-html p = html_within (suc (size-PNode p)) p
+html = whole out-PNode size-PNode [] html_layer

@@ -1,7 +1,6 @@
 -- A template as the application sees it: each node with its number, and each element that is a component's host known as one.
 use Rattle.std.specs.Prelude.{ℕ, zero, suc, ◌+◌, true, false, nat_eq, List, [], ◌∷◌, ◌++◌, Option, Some, None, codes, bytes_eq, find}
 use Rattle.std.specs.List.{flat_map}
-use denote.Param.Weighed.{most}
 use Rattle.ng_ast.specs.declared.App.{App}
 use Rattle.ng_ast.specs.declared.Place.{Place}
 use Rattle.ng_ast.specs.declared.Expr.{Expr}
@@ -15,6 +14,7 @@ use Rattle.ng_ast.specs.declared.TNode.{TNode, out-TNode, size-TNode}
 use Rattle.ng_ast.specs.declared.TNode.TheOpen.{TNode-F}
 use Rattle.ng_ast.specs.declared.Branch.{Branch}
 use Rattle.ng_ast.specs.Nodes.{count, node_count}
+use Rattle.ng_meaning.specs.Levels.{whole}
 use Rattle.ng_meaning.specs.Lists.{Text}
 use Rattle.ng_meaning.specs.Declared.{components}
 use Rattle.ng_meaning.specs.Selectors.{Attr, fits}
@@ -89,40 +89,39 @@ place_of (TNode-F.For p head ts empty) = p
 place_of (TNode-F.Switch p e bs) = p
 place_of (TNode-F.Let p name e) = p
 
--- Given what nodes side by side are, of which the first has a number.
-module _ (app : App) (nodes : ℕ → List TNode → Nodes) where
+-- Given the form of a node inside, where it has a number.
+module _ (app : App) (form_of : TNode → ℕ → Form) where
+  -- nodes side by side, of which the first has this number
+  abbrev pub side_by_side : ℕ → List TNode → Nodes
+  side_by_side n [] = no_nodes
+  side_by_side n (t ∷ ts) = node n (place_of (out-TNode t)) (form_of t n) (side_by_side (n + node_count t) ts)
+
   -- branches, where the first node inside has this number
   abbrev pub branches_from : ℕ → List Branch → Branches
   branches_from n [] = no_branches
-  branches_from n (b ∷ bs) = branch b.test b.name (nodes n b.nodes) (branches_from (n + count b.nodes) bs)
+  branches_from n (b ∷ bs) = branch b.test b.name (side_by_side n b.nodes) (branches_from (n + count b.nodes) bs)
 
   -- the `@empty` of a `@for`
   abbrev pub empty_from : ℕ → Option Branch → Branches
   empty_from n None = no_branches
-  empty_from n (Some b) = branch b.test b.name (nodes n b.nodes) no_branches
+  empty_from n (Some b) = branch b.test b.name (side_by_side n b.nodes) no_branches
 
-  -- the form of a node with this number
-  abbrev pub form_layer : ℕ → TNode-F TNode Branch → Form
-  form_layer n (TNode-F.Element p tag attrs ts) = element_form app tag attrs (nodes (n + 1) ts)
-  form_layer n (TNode-F.Text p ps) = TextNode ps
-  form_layer n (TNode-F.If p bs) = If (branches_from (n + 1) bs)
-  form_layer n (TNode-F.For p head ts empty) = For head (nodes (n + 1) ts) (empty_from (n + 1 + count ts) empty)
-  form_layer n (TNode-F.Switch p e bs) = Switch e (branches_from (n + 1) bs)
-  form_layer n (TNode-F.Let p name e) = Let name e
+  -- one level of a node with this number
+  abbrev pub form_layer : TNode-F TNode Branch → ℕ → Form
+  form_layer (TNode-F.Element p tag attrs ts) n = element_form app tag attrs (side_by_side (n + 1) ts)
+  form_layer (TNode-F.Text p ps) n = TextNode ps
+  form_layer (TNode-F.If p bs) n = If (branches_from (n + 1) bs)
+  form_layer (TNode-F.For p head ts empty) n = For head (side_by_side (n + 1) ts) (empty_from (n + 1 + count ts) empty)
+  form_layer (TNode-F.Switch p e bs) n = Switch e (branches_from (n + 1) bs)
+  form_layer (TNode-F.Let p name e) n = Let name e
 
-  -- nodes side by side
-  abbrev pub side_by_side : ℕ → List TNode → Nodes
-  side_by_side n [] = no_nodes
-  side_by_side n (t ∷ ts) = let l = out-TNode t in node n (place_of l) (form_layer n l) (side_by_side (n + node_count t) ts)
-
--- n levels of nodes; one more than their own size is enough
-abbrev pub nodes_within : ℕ → App → ℕ → List TNode → Nodes
-nodes_within zero app n ts = no_nodes
-nodes_within (suc d) app n ts = side_by_side app (nodes_within d app) n ts
+-- the form of a node with a number
+abbrev pub form_from : App → TNode → ℕ → Form
+form_from app = whole out-TNode size-TNode (λ n. TextNode []) (form_layer app)
 
 -- nodes side by side, of which the first has this number
 unfoldable pub nodes_from : App → ℕ → List TNode → Nodes
-nodes_from app n ts = nodes_within (suc (most size-TNode ts)) app n ts
+nodes_from app = side_by_side app (form_from app)
 
 -- the nodes of a component's template
 abbrev pub template_nodes : App → Component → Nodes
