@@ -1,0 +1,38 @@
+//! Laws of the definitions.
+
+ghost use Rattle.std.specs.Prelude.{◌≡◌, List, Bool, true, None, Option, Ok, Err, if◌then◌else◌};
+ghost use Rattle.ng_values.specs.declared.fault.Fault.{Fault};
+ghost use Rattle.ng_ast.specs.declared.App.{App};
+ghost use Rattle.ng_ast.specs.declared.Flag.{Flag};
+ghost use Rattle.ng_tree.specs.declared.Item.{Item};
+ghost use Rattle.ng_tree.specs.declared.Site.{Site};
+ghost use Rattle.ng_meaning.specs.Lists.{Text};
+ghost use Rattle.ng_meaning.specs.World.{World, Read, held, is_live};
+ghost use Rattle.ng_meaning.specs.Places.{Trail};
+ghost use Rattle.ng_meaning.specs.Injection.{provided, resolved};
+ghost use Rattle.ng_meaning.specs.Tree.{State};
+ghost use Rattle.ng_meaning.specs.Passes.{lives, living, Passed, pass};
+ghost use Rattle.ng_meaning.specs.Printing.{escaped, escaped_value};
+
+/// Two different texts, or two different values of attributes, are never printed alike.
+pub fn printing_tells_texts_apart()
+    ensures texts { (s t : Text) → escaped s ≡ escaped t → s ≡ t }
+    ensures values { (s t : Text) → escaped_value s ≡ escaped_value t → s ≡ t }
+{}
+
+/// What a token gives depends on the application and on where it is asked for, and not on what is
+/// live: `provided`, which knows nothing of what is held, has the answer, and its fault comes at once.
+pub fn injection_goes_by_place()
+    ensures given { (app : App) (from : Option Site) (token : Text) (flags : List Flag) (world : World) (i : Item)
+        → (resolved app from token flags world).0 ≡ Ok i → provided app from token flags ≡ Ok i }
+    ensures refused { (app : App) (from : Option Site) (token : Text) (flags : List Flag) (world : World) (f : Fault)
+        → provided app from token flags ≡ Err f → resolved app from token flags world ≡ (Err f, world) }
+{}
+
+/// A pass keeps exactly the sites that live on: what is held of them stays, and of all others nothing.
+pub fn live_sites_are_kept()
+    ensures exactly { (instances : List (Trail × List Read)) (world : World) (at : Site)
+        → held (living instances world) at ≡ (if lives instances at then held world at else None) }
+    ensures after_pass { (app : App) (every : Bool) (marks : List Trail) (z : State) (p : Passed) (at : Site)
+        → pass app every marks z ≡ Ok p → is_live p.state.world at ≡ true → lives p.state.tree.instances at ≡ true }
+{}

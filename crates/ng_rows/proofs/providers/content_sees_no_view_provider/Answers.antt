@@ -1,0 +1,15 @@
+use Rattle.std.proofs.Common.{refl}
+use Rattle.ng_meaning.specs.Compute.{everything}
+use Rattle.ng_rows.proofs.providers.content_sees_no_view_provider.Goals as goal
+
+pub returns-clause-every : goal.returns-clause-every
+unfolding everything
+returns-clause-every c = refl
+
+pub returns-clause-due : goal.returns-clause-due
+unfolding everything
+returns-clause-due c = refl
+
+pub returns-clause-report : goal.returns-clause-report
+unfolding everything
+returns-clause-report c = refl
