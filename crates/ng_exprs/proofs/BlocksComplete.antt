@@ -41,11 +41,11 @@ word_is w v e =
     let g : (t : List ℕ) × (v ≡ w ++ t) = begins_is w v f.0 in
     nothing_more w g.0 (same_length (length w) (length v) f.1 ∙ ap length g.1) ∙ sym g.1
 
-brace_is : (same s.OpenBrace s.OpenBrace ≡ true) × (same s.CloseBrace s.CloseBrace ≡ true) × (same s.Semicolon s.Semicolon ≡ true) × (same s.Semicolon s.OpenBrace ≡ false)
+pub brace_is : (same s.OpenBrace s.OpenBrace ≡ true) × (same s.CloseBrace s.CloseBrace ≡ true) × (same s.Semicolon s.Semicolon ≡ true) × (same s.Semicolon s.OpenBrace ≡ false)
 unfolding same
 brace_is = (refl, refl, refl, refl)
 
-round_is : same s.OpenRound s.OpenRound ≡ true
+pub round_is : same s.OpenRound s.OpenRound ≡ true
 unfolding same
 round_is = refl
 
@@ -54,45 +54,45 @@ neither true = refl
 neither false = refl
 
 -- another sign follows the word
-other_sign : (w v : List ℕ) (x y : Sign) (p q : Place) (r : Tokens) → same y x ≡ false → sees_word w x (token (k.Name v) p ∷ (sign y q ∷ r)) ≡ false
+pub other_sign : (w v : List ℕ) (x y : Sign) (p q : Place) (r : Tokens) → same y x ≡ false → sees_word w x (token (k.Name v) p ∷ (sign y q ∷ r)) ≡ false
 other_sign w v x y p q r e = rw e (neither (same_text w v))
 
 -- another word stands there
 other_word : (w v : List ℕ) (x y : Sign) (p q : Place) (r : Tokens) → same_text w v ≡ false → sees_word w x (token (k.Name v) p ∷ (sign y q ∷ r)) ≡ false
 other_word w v x y p q r e = rw e refl
 
-if_sees : (p q : Place) (r : Tokens) → sees_word (codes "if") s.OpenRound (token (k.Name (codes "if")) p ∷ (sign s.OpenRound q ∷ r)) ≡ true
+pub if_sees : (p q : Place) (r : Tokens) → sees_word (codes "if") s.OpenRound (token (k.Name (codes "if")) p ∷ (sign s.OpenRound q ∷ r)) ≡ true
 if_sees p q r = rw round_is refl
 
-else_sees : (p q : Place) (r : Tokens) → sees_word (codes "else") s.OpenBrace (token (k.Name (codes "else")) p ∷ (sign s.OpenBrace q ∷ r)) ≡ true
+pub else_sees : (p q : Place) (r : Tokens) → sees_word (codes "else") s.OpenBrace (token (k.Name (codes "else")) p ∷ (sign s.OpenBrace q ∷ r)) ≡ true
 else_sees p q r = rw brace_is.0 refl
 
 -- a name, and then a sign that is another than this
-abbrev Named : Sign → Tokens → Type 0
+abbrev pub Named : Sign → Tokens → Type 0
 Named t x = (v : List ℕ) × (p : Place) × (y : Sign) × (q : Place) × (z : Tokens) × (x ≡ token (k.Name v) p ∷ sign y q ∷ z) × (same y t ≡ false)
 
-named_sees : (w : List ℕ) (t : Sign) (x r : Tokens) → Named t x → sees_word w t (x ++ r) ≡ false
+pub named_sees : (w : List ℕ) (t : Sign) (x r : Tokens) → Named t x → sees_word w t (x ++ r) ≡ false
 named_sees w t x r (v, p, y, q, z, e, f) = subst (λ u. sees_word w t (u ++ r) ≡ false) (sym e) (other_sign w v t y p q (z ++ r) f)
 
 named_call : (l : Bool) (e : ℕ) (v : List ℕ) (p : Place) {x : Tokens} {es : List Expr} → ReadsCall l e x es → Named s.OpenBrace (token (k.Name v) p ∷ x)
 unfolding same
 named_call l e v p (ReadsCall.call x q r room h) = (v, p, s.OpenRound, q, x ++ sign s.CloseRound r ∷ [], refl, refl)
 
-named_owner : {l : Bool} {e : ℕ} {x : Tokens} {w : Owner} → ReadsOwner l e x w → (y : Tokens) → Named s.OpenBrace (x ++ y)
+pub named_owner : {l : Bool} {e : ℕ} {x : Tokens} {w : Owner} → ReadsOwner l e x w → (y : Tokens) → Named s.OpenBrace (x ++ y)
 unfolding same
 named_owner (ReadsOwner.named v p q) y = (v, p, s.Dot, q, y, refl, refl)
 named_owner (ReadsOwner.safe v p q) y = (v, p, s.SafeDot, q, y, refl, refl)
 named_owner (ReadsOwner.apart v p q r) y = (v, p, s.Question, q, sign s.Dot r ∷ y, refl, refl)
 named_owner (ReadsOwner.item v x p q r t room h) y = (v, p, s.OpenSquare, q, (x ++ sign s.CloseSquare r ∷ sign s.Dot t ∷ []) ++ y, refl, refl)
 
-uncalled_owner : {l : Bool} {e : ℕ} {x : Tokens} {w : Owner} → ReadsOwner l e x w → (y : Tokens) → Named s.OpenRound (x ++ y)
+pub uncalled_owner : {l : Bool} {e : ℕ} {x : Tokens} {w : Owner} → ReadsOwner l e x w → (y : Tokens) → Named s.OpenRound (x ++ y)
 unfolding same
 uncalled_owner (ReadsOwner.named v p q) y = (v, p, s.Dot, q, y, refl, refl)
 uncalled_owner (ReadsOwner.safe v p q) y = (v, p, s.SafeDot, q, y, refl, refl)
 uncalled_owner (ReadsOwner.apart v p q r) y = (v, p, s.Question, q, sign s.Dot r ∷ y, refl, refl)
 uncalled_owner (ReadsOwner.item v x p q r t room h) y = (v, p, s.OpenSquare, q, (x ++ sign s.CloseSquare r ∷ sign s.Dot t ∷ []) ++ y, refl, refl)
 
-assigns : same s.Assign s.OpenRound ≡ false
+pub assigns : same s.Assign s.OpenRound ≡ false
 unfolding same
 assigns = refl
 
@@ -102,18 +102,18 @@ named_simple (ReadsSimple.set v x p q h) = (v, p, s.Assign, q, x, refl, refl)
 named_simple (ReadsSimple.run v x p h) = named_call _ _ v p h
 named_simple (ReadsSimple.send v x y p h i) = named_owner h (token (k.Name v) p ∷ y)
 
-named_test : {l : Bool} {e : ℕ} {x : Tokens} {a : Expr} → ReadsTest l e x a → Named s.OpenBrace x
+pub named_test : {l : Bool} {e : ℕ} {x : Tokens} {a : Expr} → ReadsTest l e x a → Named s.OpenBrace x
 unfolding same
 named_test (ReadsTest.test x p q r room h) = (codes "if", p, s.OpenRound, q, x ++ sign s.CloseRound r ∷ [], refl, refl)
 
-named_more : (x y : Tokens) → Named s.OpenBrace x → Named s.OpenBrace (x ++ y)
+pub named_more : (x y : Tokens) → Named s.OpenBrace x → Named s.OpenBrace (x ++ y)
 named_more x y (v, p, t, q, z, e, f) = (v, p, t, q, z ++ y, ap (λ u. u ++ y) e, f)
 
-named_stmt : {l : Bool} {e : ℕ} {x : Tokens} {a : Stmt} → ReadsStmt l e x a → Named s.OpenBrace x
+pub named_stmt : {l : Bool} {e : ℕ} {x : Tokens} {a : Stmt} → ReadsStmt l e x a → Named s.OpenBrace x
 named_stmt (ReadsStmt.plain x p h) = named_more x _ (named_simple h)
 named_stmt (ReadsStmt.conditional x y z h i j) = named_more x (y ++ z) (named_test h)
 
-named_not_over : (x r : Tokens) → Named s.OpenBrace x → is_over (x ++ r) ≡ false
+pub named_not_over : (x r : Tokens) → Named s.OpenBrace x → is_over (x ++ r) ≡ false
 named_not_over x r (v, p, t, q, z, e, f) = subst (λ u. is_over (u ++ r) ≡ false) (sym e) refl
 
 -- no `else {` stands where no statement follows
@@ -152,10 +152,10 @@ module _ (L : Type 0) (inner : Parser (List Stmt)) where
   branch_gets p a taken otherwise ts us r h i = then_l L (block inner ts) _ taken us (b.If p a taken otherwise) r h (then_l L (other inner us) _ otherwise r (b.If p a taken otherwise) r i refl)
 
 -- a brace stands first
-abbrev Opened : Tokens → Type 0
+abbrev pub Opened : Tokens → Type 0
 Opened x = (q : Place) × (w : Tokens) × (x ≡ sign s.OpenBrace q ∷ w)
 
-opened : {l : Bool} {e : ℕ} {x : Tokens} {bs : List Stmt} → ReadsBlock l e x bs → Opened x
+pub opened : {l : Bool} {e : ℕ} {x : Tokens} {bs : List Stmt} → ReadsBlock l e x bs → Opened x
 opened (ReadsBlock.block x p q room h) = (p, x ++ sign s.CloseBrace q ∷ [], refl)
 
 -- no brace may be opened
@@ -267,7 +267,7 @@ module _ (l : Bool) (L : Type 0) (n m c D : ℕ) (serves : Serves l L n m c D) w
       (other_gets L (body n m c d) p q (w ++ r) bs r (subst (λ u. GetsL L bs r (block (body n m c d) u)) same_block h))
 
   mutual
-    stmt_gets : (e d : ℕ) {x : Tokens} {a : Stmt} → e + d ≡ D → ReadsStmt l e x a → (r : Tokens) → sees_word (codes "else") s.OpenBrace r ≡ false → e + length (x ++ r) < c → GetsL L a r (statement n m c (body n m c d) d (x ++ r))
+    pub stmt_gets : (e d : ℕ) {x : Tokens} {a : Stmt} → e + d ≡ D → ReadsStmt l e x a → (r : Tokens) → sees_word (codes "else") s.OpenBrace r ≡ false → e + length (x ++ r) < c → GetsL L a r (statement n m c (body n m c d) d (x ++ r))
     stmt_gets e d eq (ReadsStmt.plain x p h) r bare len =
         let all : (x ++ sign s.Semicolon p ∷ []) ++ r ≡ x ++ sign s.Semicolon p ∷ r = append_assoc x (sign s.Semicolon p ∷ []) r in
         rw all (plain_gets l L n m c D serves (body n m c d) e d eq h p r (rw all at len))
@@ -277,7 +277,7 @@ module _ (l : Bool) (L : Type 0) (n m c D : ℕ) (serves : Serves l L n m c D) w
         rw all (conditional_gets e d eq x y z _ _ _ h (opened i) r short (blocks_gets e d eq i (z ++ r) (omega (arith, short, length-append x (y ++ (z ++ r)))))
         (else_gets e d eq j r bare (omega (arith, short, length-append x (y ++ (z ++ r)), length-append y (z ++ r)))))
 
-    blocks_gets : (e d : ℕ) {y : Tokens} {bs : List Stmt} → e + d ≡ D → ReadsBlock l e y bs → (r : Tokens) → e + length (y ++ r) < c → GetsL L bs r (block (body n m c d) (y ++ r))
+    pub blocks_gets : (e d : ℕ) {y : Tokens} {bs : List Stmt} → e + d ≡ D → ReadsBlock l e y bs → (r : Tokens) → e + length (y ++ r) < c → GetsL L bs r (block (body n m c d) (y ++ r))
     blocks_gets e d {bs = bs} eq (ReadsBlock.block x p q room h) r len =
         let all : (x ++ sign s.CloseBrace q ∷ []) ++ r ≡ x ++ sign s.CloseBrace q ∷ r = append_assoc x (sign s.CloseBrace q ∷ []) r in
         subst (λ u. GetsL L bs r (block (body n m c d) (sign s.OpenBrace p ∷ u))) (sym all)

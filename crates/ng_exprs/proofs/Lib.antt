@@ -15,4 +15,7 @@ pub mod LinesPublic
 pub mod LineSteps
 pub mod BlocksComplete
 pub mod BlocksSound
+pub mod Keeping
+pub mod Awaiting
+pub mod AwaitingBlocks
 pub mod BlocksPublic

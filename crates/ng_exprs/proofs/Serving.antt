@@ -25,23 +25,27 @@ any_measured c d x a r (Ok p) e g = rw e (either (nat_lt 256 (length (x ++ r) - 
 any_measured c d x a r (Err Limit) e g = rw e tt
 any_measured c d x a r (Err Syntax) e g = absurd g
 
+-- an expression, before a token that ends one
+pub read_before : (c d : ℕ) (x : Tokens) (a : Expr) → ReadsPiped x a → (r : Tokens) → Ends 10 r → GetsL (Unit {0}) a r (measured turns 256 c d (x ++ r))
+read_before c d x a h r end = any_measured c d x a r (whole turns (suc d) (x ++ r)) refl (complete_before h turns (suc d) r end)
+
 pub serves_any : (c : ℕ) → Serves false (Unit {0}) turns 256 c 32
 serves_any c = record {
-  expr = λ d e eq x a h r end len. any_measured c d x a r (whole turns (suc d) (x ++ r)) refl (complete_before h turns (suc d) r end);
+  expr = λ d e eq x a h r end len. read_before c d x a h r end;
   room = λ e open_ eq small. tt;
 }
 
 -- ---- within the limits: no limit is met
 
 -- two cuts of one list
-abbrev Cuts : Tokens → Tokens → Tokens → Type 0
+abbrev pub Cuts : Tokens → Tokens → Tokens → Type 0
 Cuts text x r = ((y : Tokens) × (x ≡ text ++ y)) ⊎ ((t : Token) × (w : Tokens) × (text ≡ x ++ t ∷ w) × ((z : Tokens) → peek (t ∷ z) ≡ peek r))
 
 cut_more : (t : Token) (text x r : Tokens) → Cuts text x r → Cuts (t ∷ text) (t ∷ x) r
 cut_more t text x r (inl h) = inl (h.0, ap (λ z. t ∷ z) h.1)
 cut_more t text x r (inr h) = inr (h.0, h.1, ap (λ z. t ∷ z) h.2, h.3)
 
-cuts : (text tail x r : Tokens) → x ++ r ≡ text ++ tail → Cuts text x r
+pub cuts : (text tail x r : Tokens) → x ++ r ≡ text ++ tail → Cuts text x r
 cuts [] tail x r e = inl (x, refl)
 cuts (t ∷ text) tail [] r e = inr (t, text, refl, λ z. ap (λ ts. peek ts) (sym e))
 cuts (t ∷ text) tail (u ∷ x) r e =

@@ -7,6 +7,7 @@ use Rattle.ng_tokens.specs.Lexis.{Text}
 use Rattle.ng_exprs.specs.declared.halt.Halt.{Halt}
 use Rattle.ng_exprs.specs.Grammar.{Tokens}
 use Rattle.ng_exprs.specs.Statements.{ReadsStmts}
+use Rattle.ng_exprs.specs.Awaits.{AwaitsBody}
 use Rattle.ng_exprs.specs.Phrases.{ReadsPhrase, OverPhrase, NoPhrase, AnswersTokens, AnswersPhrase}
 
 -- the tokens are the statements of a body, in which no bracket is open at first
@@ -19,7 +20,7 @@ ReadsBody l = ReadsPhrase true (ReadsWhole l)
 
 -- a front of the text is a body that is begun, and passes a limit
 abbrev pub OverBody : Place → Text → Type 0
-OverBody = OverPhrase true (ReadsWhole false)
+OverBody = OverPhrase true (ReadsWhole false) (AwaitsBody 0)
 
 -- the text is no body, or none within the limits
 abbrev pub NoBody : Bool → Place → Text → Type 0
@@ -28,7 +29,7 @@ NoBody l = NoPhrase true (ReadsWhole l)
 -- ---- what the readers of tokens and of a text give
 
 abbrev pub AnswersStatements : Tokens → Result (List Stmt) Halt → Type 0
-AnswersStatements = AnswersTokens ReadsWhole
+AnswersStatements = AnswersTokens ReadsWhole (AwaitsBody 0)
 
 abbrev pub AnswersBody : Place → Text → Result (List Stmt) ReadError → Type 0
-AnswersBody = AnswersPhrase true ReadsWhole
+AnswersBody = AnswersPhrase true ReadsWhole (AwaitsBody 0)

@@ -88,10 +88,14 @@ mutual
 abbrev pub Begins : {A : Type 0} → (Tokens → A → Type 0) → Tokens → Type 0
 Begins {A} R ts = (more : Tokens) × (a : A) × R (ts ++ more) a
 
--- an expression that has more than 256 tokens is begun at the end: after what stands before it, any expression may stand
-abbrev pub EndsLong : {A : Type 0} → (Tokens → A → Type 0) → Tokens → Type 0
-EndsLong R ts = (before x : Tokens) × (ts ≡ before ++ x) × (256 < length x) × Begins ReadsPiped x × ((y : Tokens) (a : Expr) → ReadsPiped y a → Begins R (before ++ y))
+-- an expression that has more than 256 tokens is begun at the end, where one is awaited
+abbrev pub EndsLong : (Tokens → Type 0) → Tokens → Type 0
+EndsLong awaits ts = (before x : Tokens) × (ts ≡ before ++ x) × awaits before × (256 < length x) × Begins ReadsPiped x
+
+-- more than 32 brackets are open at the end, or an expression there is too long
+abbrev pub PassesIn : (Tokens → Type 0) → Tokens → Type 0
+PassesIn awaits ts = (32 < opens 0 ts) ⊎ EndsLong awaits ts
 
 -- some of the tokens at the front are begun, and pass a limit
-abbrev pub OverIn : {A : Type 0} → (Tokens → A → Type 0) → Tokens → Type 0
-OverIn R ts = (front rest : Tokens) × (ts ≡ front ++ rest) × Begins R front × ((32 < opens 0 front) ⊎ EndsLong R front)
+abbrev pub OverIn : {A : Type 0} → (Tokens → A → Type 0) → (Tokens → Type 0) → Tokens → Type 0
+OverIn R awaits ts = (front rest : Tokens) × (ts ≡ front ++ rest) × Begins R front × PassesIn awaits front

@@ -47,14 +47,15 @@ fn read_text(alloc: Global, text: &str, base: Place) -> Result<Items<Stmt>, Read
 /// white space. `base` is the place of the text's first byte, from which places are counted. No word is reserved: `if(x);`, `if = 1;`
 /// and `else();` are statements about names, and `else` belongs to an `if` only before `{`. Takes time linear in the length of the text.
 ///
-/// `Syntax` comes only where the text is no body, `Limit` only where it is none within the limits and a front of it is a body that is
-/// begun and has more than 32 brackets open (the braces of `if` among them), or ends in an expression that is begun and has more than
-/// 256 tokens. Each argument of a call is an expression of its own. The place of a refusal is where the reader stopped; no clause fixes
-/// it. The statements are this project's own, as docs/LANGUAGE.md has them.
+/// Ok comes exactly where the text is a body and passes no limit. `Syntax` comes only where it is no body, `Limit` only where it passes
+/// one: a front of it is a body that is begun and has more than 32 brackets open (the braces of `if` among them), or ends in an
+/// expression that is begun and has more than 256 tokens. Each argument of a call is an expression of its own. The place of a refusal is
+/// where the reader stopped; no clause fixes it. The statements are this project's own, as docs/LANGUAGE.md has them.
 pub fn read_body(alloc: Global, text: &str, base: Place) -> Result<Items<Stmt>, ReadError>
     requires size { length text.now ≤ 1048576 }
     requires near { IsNear base }
     ensures reads { IfOk result (λ bs. ReadsBody true base text.now bs) }
+    ensures within { IfOk result (λ bs. OverBody base text.now → ⊥) }
     ensures refused { IfErr result (Refused (NoBody false base text.now) (OverBody base text.now × NoBody true base text.now)) }
     ensures exact { (bs : List Stmt) → ReadsBody true base text.now bs → IsOrMemory bs result }
 {

@@ -46,13 +46,15 @@ fn read_text(alloc: Global, text: &str, base: Place) -> Result<Items<Stmt>, Read
 /// Reads a listener: one statement or several without `if`, with `;` between, the last `;` optional. `base` is the place of the
 /// text's first byte, from which places are counted. No comment is read. Takes time linear in the length of the text.
 ///
-/// `Syntax` comes only where the text is no listener, `Limit` only where it is none within the limits and a front of it is a
-/// listener that is begun and has more than 32 brackets open, or ends in an expression that is begun and has more than 256 tokens.
+/// Ok comes exactly where the text is a listener and passes no limit. `Syntax` comes only where it is no listener, `Limit` only where
+/// it passes one: a front of it is a listener that is begun and has more than 32 brackets open, or ends in an expression that is begun
+/// and has more than 256 tokens.
 /// Each argument of a call is an expression of its own. The place of a refusal is where the reader stopped; no clause fixes it.
 pub fn read_listener(alloc: Global, text: &str, base: Place) -> Result<Items<Stmt>, ReadError>
     requires size { length text.now ≤ 1048576 }
     requires near { IsNear base }
     ensures reads { IfOk result (λ bs. ReadsLines true base text.now bs) }
+    ensures within { IfOk result (λ bs. OverLines base text.now → ⊥) }
     ensures refused { IfErr result (Refused (NoLines false base text.now) (OverLines base text.now × NoLines true base text.now)) }
     ensures exact { (bs : List Stmt) → ReadsLines true base text.now bs → IsOrMemory bs result }
 {
