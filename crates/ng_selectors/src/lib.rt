@@ -32,12 +32,12 @@ pub struct Attr {
 /// Reads a selector, in time linear in the length of the text. `base` is the place of the text's first byte, at which a refusal
 /// stands.
 ///
-/// A selector is one alternative or more, with commas and white space between. An alternative is `*`, or a tag, any number of
-/// `[a]`, `[a=v]`, `.c` and `:not(..)`, or both. In `:not` stands one alternative without another `:not`. A tag is a lower-case
-/// letter with lower-case letters, digits and `-` after it; `a` and `c` are letters, digits, `-`, `_` and `%`; `v` is a letter or
-/// `_` with letters, digits and `_` after it, or anything in quotes. These are Angular's selectors of components
-/// (<https://angular.dev/guide/components/selectors>) without white space elsewhere, with letters of ASCII alone, and with `*` only
-/// by itself.
+/// A selector is one alternative or more, with a comma between each two and white space round the commas. An alternative is `*`, or
+/// a tag with any number of `[a]`, `[a=v]`, `.c` and `:not(..)` behind it; where one of these stands the tag may be missing. In
+/// `:not` stands one alternative without another `:not`. A tag is a lower-case letter, then lower-case letters, digits and `-`;
+/// `a` and `c` are letters, digits, `-`, `_` and `%`; `v` is a letter or `_`, then letters, digits and `_`, or anything in quotes.
+/// Letters are those of ASCII. Angular's selectors of components (<https://angular.dev/guide/components/selectors>) are the model;
+/// which characters may stand where is this project's own.
 ///
 /// `Syntax` comes only where the text is no selector. Selectors have no limit, so `Limit` never comes, and neither does `Utf8`.
 pub fn read_selector(alloc: Global, text: &str, base: Place) -> Result<Selector, ReadError>
