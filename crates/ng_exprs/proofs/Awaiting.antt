@@ -1,6 +1,6 @@
 -- Where statements await an expression, the function reads one; so what keeps the limits has no front that ends in an expression that is too long.
-use Rattle.std.proofs.Common.{◌≡◌, ℕ, zero, suc, ◌+◌, ◌<◌, ◌≤◌, List, [], ◌∷◌, ◌++◌, length, refl, sym, ◌∙◌, ap, subst, append_assoc, arith, length-append, inl, inr}
-use Rattle.std.specs.Prelude.{Bool, true, false, cond, codes, Ok, Err, ◌⊎◌}
+use Rattle.std.proofs.Common.{◌≡◌, ℕ, zero, suc, ◌+◌, ◌<◌, List, [], ◌∷◌, ◌++◌, length, refl, sym, ◌∙◌, ap, subst, append_assoc, arith, length-append, inl, inr}
+use Rattle.std.specs.Prelude.{Bool, true, false, cond, Ok, Err}
 use Rattle.ng_ast.specs.declared.Place.{Place}
 use Rattle.ng_ast.specs.declared.Expr.{Expr}
 use Rattle.ng_ast.specs.declared.Owner.{Owner}
@@ -10,10 +10,9 @@ use Rattle.ng_tokens.specs.declared.kinds.Sign.{Sign}
 use Rattle.ng_tokens.specs.declared.kinds.Sign.TheVariants as s
 use Rattle.ng_tokens.specs.declared.kinds.Kind.TheVariants as k
 use Rattle.ng_tokens.specs.declared.kinds.Token.{Token}
-use Rattle.ng_tokens.specs.Lexis.{same_text}
-use Rattle.ng_exprs.specs.Grammar.{Tokens, token, sign, start, ReadsPiped}
+use Rattle.ng_exprs.specs.Grammar.{Tokens, token, sign, ReadsPiped}
 use Rattle.ng_exprs.specs.Parse.{Outcome, Parser, and_then, same, peek, rest, is_sign, expect, turns}
-use Rattle.ng_exprs.specs.Statements.{IsExpr, ReadsOwner, ReadsSimple, ReadsListener, EndsLong}
+use Rattle.ng_exprs.specs.Statements.{IsExpr, ReadsOwner, ReadsSimple, EndsLong}
 use Rattle.ng_exprs.specs.Awaits.{AwaitsArg, AwaitsSimple, AwaitsListener}
 use Rattle.ng_exprs.specs.Lines.{list_of, measured, args, set, run, send, apart, item, simple, is_last, listener}
 use Rattle.ng_exprs.proofs.Complete.{Ends, extends, extends_at, not_closed_piped}
@@ -33,6 +32,7 @@ too_long x more tail v long h (c, d, e, eq, a, us, found, end) = by read (cuts x
   where
     read : Read (IsExpr true e) (x ++ tail) a us
     read = subst (Is (Read (IsExpr true e) (x ++ tail)) (Halted ReadsPiped AtStart (suc d) (x ++ tail))) found (measured_sound c e d eq (x ++ tail))
+
     by : (t : Read (IsExpr true e) (x ++ tail) a us) → Cuts x t.text us → ⊥
     by t (inl (y, same)) = absurd (omega (arith, ap length same, length-append x y, t.reads.1))
     by t (inr (u, w, same, next)) = no_longer t.text a t.reads.0 u (w ++ more) (subst (λ z. 10 < extends_at z) (sym (next (w ++ more))) end) v

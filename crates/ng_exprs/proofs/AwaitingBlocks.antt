@@ -1,21 +1,18 @@
 -- Where a body awaits an expression, the function reads one.
-use Rattle.std.proofs.Common.{◌≡◌, ℕ, zero, suc, ◌+◌, ◌<◌, ◌≤◌, List, [], ◌∷◌, ◌++◌, length, refl, sym, ◌∙◌, ap, subst, append_assoc, arith, length-append}
-use Rattle.std.specs.Prelude.{Bool, true, false, cond, codes, Ok, Err}
+use Rattle.std.proofs.Common.{◌≡◌, ℕ, zero, suc, ◌+◌, ◌<◌, List, [], ◌∷◌, ◌++◌, length, refl, sym, ◌∙◌, ap, subst, append_assoc, arith, length-append}
+use Rattle.std.specs.Prelude.{Bool, true, false, codes, Ok}
 use Rattle.ng_ast.specs.declared.Place.{Place}
 use Rattle.ng_ast.specs.declared.Expr.{Expr}
-use Rattle.ng_ast.specs.declared.Owner.{Owner}
 use Rattle.ng_ast.specs.declared.Stmt.{Stmt}
-use Rattle.ng_tokens.specs.declared.kinds.Sign.{Sign}
 use Rattle.ng_tokens.specs.declared.kinds.Sign.TheVariants as s
 use Rattle.ng_tokens.specs.declared.kinds.Kind.TheVariants as k
 use Rattle.ng_tokens.specs.Lexis.{same_text}
-use Rattle.ng_exprs.specs.Grammar.{Tokens, token, sign, start, ReadsPiped}
-use Rattle.ng_exprs.specs.Parse.{Outcome, Parser, and_then, same, peek, is_sign, expect, turns}
-use Rattle.ng_exprs.specs.Statements.{ReadsSomeArgs, ReadsArgs, ReadsTest, ReadsStmt, ReadsBlock, EndsLong}
+use Rattle.ng_exprs.specs.Grammar.{Tokens, token, sign, ReadsPiped}
+use Rattle.ng_exprs.specs.Parse.{Parser, same, expect, turns}
+use Rattle.ng_exprs.specs.Statements.{ReadsSomeArgs, ReadsArgs, ReadsTest, EndsLong}
 use Rattle.ng_exprs.specs.Awaits.{AwaitsArg, AwaitsSimple, AwaitsBody}
 use Rattle.ng_exprs.specs.Lines.{args, simple}
 use Rattle.ng_exprs.specs.Blocks.{sees_word, is_over, block, other, branch, conditional, statement, statements, body}
-use Rattle.ng_exprs.proofs.Complete.{Ends}
 use Rattle.ng_exprs.proofs.LinesComplete.{GetsL, args_gets}
 use Rattle.ng_exprs.proofs.Serving.{serves_any}
 use Rattle.ng_exprs.proofs.BlocksComplete.{brace_is, round_is, if_sees, else_sees, other_sign, word_is, Named, named_sees, named_owner, uncalled_owner, named_test, named_stmt, named_more, named_not_over, Opened, opened, assigns, stmt_gets, blocks_gets}
@@ -90,7 +87,7 @@ module _ (c e d : ℕ) (eq : e + d ≡ 32) (inner : Parser (List Stmt)) where
   test_call p p2 p3 x a h t ts len q f =
       let tail : Tokens = sign s.OpenBrace t ∷ ts in
       let g = then_gets (Unit {0}) (args turns 256 c d (x ++ sign s.CloseRound p3 ∷ tail)) _ q (a ∷ []) tail
-          (args_gets false (Unit {0}) turns 256 c 32 (serves_any c) e d eq x (a ∷ []) tt (ReadsArgs.some_args (ReadsSomeArgs.last_arg h)) p3 tail len) (rw round_is at f) in
+      (args_gets false (Unit {0}) turns 256 c 32 (serves_any c) e d eq x (a ∷ []) tt (ReadsArgs.some_args (ReadsSomeArgs.last_arg h)) p3 tail len) (rw round_is at f) in
       rw brace_is.0 at g
 
   test_if : (p p2 : Place) (ts : Tokens) (q : Stmt × Tokens) → statement turns 256 c inner d (token (k.Name (codes "if")) p ∷ (sign s.OpenRound p2 ∷ ts)) ≡ Ok q → conditional turns 256 c inner d p (token (k.Name (codes "if")) p ∷ (sign s.OpenRound p2 ∷ ts)) ≡ Ok q
@@ -101,9 +98,11 @@ module _ (c e d : ℕ) (eq : e + d ≡ 32) (inner : Parser (List Stmt)) where
       → (p : Place) × (branch inner p a (sign s.OpenBrace t ∷ ts) ≡ Ok q)
   test_branch {a = a} (ReadsTest.test x p p2 p3 room h) t ts len q f =
       let tail : Tokens = sign s.OpenBrace t ∷ ts in
-      let all : (x ++ sign s.CloseRound p3 ∷ []) ++ tail ≡ x ++ sign s.CloseRound p3 ∷ tail = append_assoc x (sign s.CloseRound p3 ∷ []) tail in
-      (p, test_call p p2 p3 x a h t ts (omega (arith, len, ap length all)) q
-      (subst (λ z. conditional turns 256 c inner d p (token (k.Name (codes "if")) p ∷ (sign s.OpenRound p2 ∷ z)) ≡ Ok q) all (test_if p p2 ((x ++ sign s.CloseRound p3 ∷ []) ++ tail) q f)))
+      let all : (x ++ sign s.CloseRound p3 ∷ []) ++ tail ≡ x ++ sign s.CloseRound p3 ∷ tail = append_assoc x (sign s.CloseRound p3 ∷ []) tail in (
+        p,
+        test_call p p2 p3 x a h t ts (omega (arith, len, ap length all)) q
+            (subst (λ z. conditional turns 256 c inner d p (token (k.Name (codes "if")) p ∷ (sign s.OpenRound p2 ∷ z)) ≡ Ok q) all (test_if p p2 ((x ++ sign s.CloseRound p3 ∷ []) ++ tail) q f)),
+      )
 
 module _ (inner : Parser (List Stmt)) where
   block_inner : (p : Place) (ts : Tokens) (q : List Stmt × Tokens) → block inner (sign s.OpenBrace p ∷ ts) ≡ Ok q → (r : List Stmt × Tokens) × (inner ts ≡ Ok r)
@@ -160,13 +159,13 @@ reach_body c {e = e} (AwaitsBody.otherwise {a = a} {bs = bs} x y z p p2 h j aw) 
     let o : Opened y = opened j in
     let same_block : y ++ tail ≡ sign s.OpenBrace o.0 ∷ (o.1 ++ tail) = ap (λ u. u ++ tail) o.2 in
     let all : (x ++ (y ++ token (k.Name (codes "else")) p ∷ sign s.OpenBrace p2 ∷ z)) ++ w ≡ x ++ (y ++ tail) =
-        append_assoc x (y ++ token (k.Name (codes "else")) p ∷ sign s.OpenBrace p2 ∷ z) w ∙ ap (λ u. x ++ u) (append_assoc y (token (k.Name (codes "else")) p ∷ sign s.OpenBrace p2 ∷ z) w) in
+    append_assoc x (y ++ token (k.Name (codes "else")) p ∷ sign s.OpenBrace p2 ∷ z) w ∙ ap (λ u. x ++ u) (append_assoc y (token (k.Name (codes "else")) p ∷ sign s.OpenBrace p2 ∷ z) w) in
     let whole : (x ++ (y ++ token (k.Name (codes "else")) p ∷ sign s.OpenBrace p2 ∷ z)) ++ w ≡ x ++ sign s.OpenBrace o.0 ∷ (o.1 ++ tail) = all ∙ ap (λ u. x ++ u) same_block in
     let short : e + length (x ++ (y ++ tail)) < c = omega (arith, len, ap length all) in
     let t = next_statement (body turns 256 c d) c d (x ++ sign s.OpenBrace o.0 ∷ (o.1 ++ tail)) (named_not_over x (sign s.OpenBrace o.0 ∷ (o.1 ++ tail)) (named_test h)) i q (subst (λ u. statements turns 256 c (body turns 256 c d) d i u ≡ Ok q) whole g) in
     let u = test_branch c e d eq (body turns 256 c d) h o.0 (o.1 ++ tail) (omega (arith, len, ap length whole)) t.0 t.1 in
     let gets : GetsL (Unit {0}) bs tail (block (body turns 256 c d) (sign s.OpenBrace o.0 ∷ (o.1 ++ tail))) =
-        subst (λ r. GetsL (Unit {0}) bs tail (block (body turns 256 c d) r)) same_block (blocks_gets false (Unit {0}) turns 256 c 32 (serves_any c) e d eq j tail (omega (arith, short, length-append x (y ++ tail)))) in
+    subst (λ r. GetsL (Unit {0}) bs tail (block (body turns 256 c d) r)) same_block (blocks_gets false (Unit {0}) turns 256 c 32 (serves_any c) e d eq j tail (omega (arith, short, length-append x (y ++ tail)))) in
     let v = branch_other (body turns 256 c d) u.0 a (sign s.OpenBrace o.0 ∷ (o.1 ++ tail)) t.0 bs tail gets u.1 in
     let f = block_inner (body turns 256 c d) p2 (z ++ w) v.0 (other_block (body turns 256 c d) p p2 (z ++ w) v.0 v.1) in
     let b = body_statements c d (z ++ w) f.0 f.1 in
@@ -175,7 +174,7 @@ reach_body c {e = e} (AwaitsBody.later {a = a} x y h aw) d eq w n len i q g =
     let all : (x ++ y) ++ w ≡ x ++ (y ++ w) = append_assoc x y w in
     let short : e + length (x ++ (y ++ w)) < c = omega (arith, len, ap length all) in
     let t = statements_again (body turns 256 c d) c d (x ++ (y ++ w)) (named_not_over x (y ++ w) (named_stmt h)) a (y ++ w)
-        (stmt_gets false (Unit {0}) turns 256 c 32 (serves_any c) e d eq h (y ++ w) (named_sees (codes "else") s.OpenBrace y w (named_body aw)) short) i q (subst (λ z. statements turns 256 c (body turns 256 c d) d i z ≡ Ok q) all g) in
+    (stmt_gets false (Unit {0}) turns 256 c 32 (serves_any c) e d eq h (y ++ w) (named_sees (codes "else") s.OpenBrace y w (named_body aw)) short) i q (subst (λ z. statements turns 256 c (body turns 256 c d) d i z ≡ Ok q) all g) in
     reach_body c aw d eq w n (omega (arith, short, length-append x (y ++ w))) t.0 t.1 t.2
 
 pub body_not_long : (c : ℕ) (front tail : Tokens) (q : List Stmt × Tokens) → length (front ++ tail) < c → body turns 256 c 33 (front ++ tail) ≡ Ok q → EndsLong (AwaitsBody 0) front → ⊥

@@ -1,7 +1,7 @@
 -- What the grammar of bodies reads, the function reads.
-use Rattle.std.proofs.Common.{◌≡◌, ℕ, zero, suc, ◌+◌, ◌<◌, ◌≤◌, List, [], ◌∷◌, ◌++◌, length, refl, sym, ◌∙◌, ap, subst, append_assoc, arith, length-append}
+use Rattle.std.proofs.Common.{◌≡◌, ℕ, zero, suc, ◌+◌, ◌<◌, List, [], ◌∷◌, ◌++◌, length, refl, sym, ◌∙◌, ap, subst, append_assoc, arith, length-append}
 use Rattle.std.proofs.lemmas.List.{append-nil}
-use Rattle.std.specs.Prelude.{Bool, true, false, cond, codes, ◌&&◌, ◌==◌, Ok, Err}
+use Rattle.std.specs.Prelude.{Bool, true, false, cond, codes, ◌&&◌, ◌==◌}
 use Rattle.ng_ast.specs.declared.Place.{Place}
 use Rattle.ng_ast.specs.declared.Expr.{Expr}
 use Rattle.ng_ast.specs.declared.Owner.{Owner}
@@ -11,15 +11,13 @@ use Rattle.ng_tokens.specs.declared.kinds.Sign.{Sign}
 use Rattle.ng_tokens.specs.declared.kinds.Sign.TheVariants as s
 use Rattle.ng_tokens.specs.declared.kinds.Kind.{Kind}
 use Rattle.ng_tokens.specs.declared.kinds.Kind.TheVariants as k
-use Rattle.ng_tokens.specs.declared.kinds.Token.{Token}
 use Rattle.ng_tokens.specs.Lexis.{begins, same_text}
 use Rattle.ng_tokens.proofs.SignTable.{begins_is}
 use Rattle.ng_exprs.specs.Grammar.{Tokens, token, sign, start}
-use Rattle.ng_exprs.specs.Parse.{Outcome, Parser, same, sign_of, peek, is_sign, limit}
+use Rattle.ng_exprs.specs.Parse.{Parser, same, limit}
 use Rattle.ng_exprs.specs.Statements.{IsExpr, IsOpen, ReadsSomeArgs, ReadsArgs, ReadsCall, ReadsOwner, ReadsSimple, ReadsTest, ReadsStmt, ReadsBlock, ReadsElse, ReadsStmts}
 use Rattle.ng_exprs.specs.Lines.{args, simple}
-use Rattle.ng_exprs.specs.Blocks.{is_word, sees_word, is_over, block, other, branch, conditional, statement, statements, body}
-use Rattle.ng_exprs.proofs.Complete.{Ends}
+use Rattle.ng_exprs.specs.Blocks.{sees_word, is_over, block, other, branch, conditional, statement, statements, body}
 use Rattle.ng_exprs.proofs.LinesComplete.{GetsL, then_l, Serves, args_gets, simple_gets}
 
 -- ---- signs and words

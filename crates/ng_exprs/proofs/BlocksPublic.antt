@@ -1,14 +1,14 @@
 -- The laws of bodies at a whole list of tokens.
-use Rattle.std.proofs.Common.{◌≡◌, ℕ, suc, ◌+◌, ◌<◌, ◌≤◌, List, [], ◌∷◌, ◌++◌, length, refl, sym, ◌∙◌, ap, subst, arith}
+use Rattle.std.proofs.Common.{◌≡◌, ℕ, suc, ◌<◌, ◌≤◌, List, [], ◌∷◌, ◌++◌, length, refl, sym, ◌∙◌, ap, subst, arith}
 use Rattle.std.proofs.lemmas.List.{append-nil}
-use Rattle.std.specs.Prelude.{Bool, true, false, Result, Ok, Err}
+use Rattle.std.specs.Prelude.{Bool, true, false, Ok, Err}
 use Rattle.ng_ast.specs.declared.Stmt.{Stmt}
 use Rattle.ng_exprs.specs.declared.halt.Halt.{Halt}
 use Rattle.ng_exprs.specs.declared.halt.Halt.TheVariants as h
 use Rattle.ng_exprs.specs.Gives.{Fails}
 use Rattle.ng_exprs.specs.Grammar.{Tokens}
 use Rattle.ng_exprs.specs.Limits.{Within}
-use Rattle.ng_exprs.specs.Parse.{Syntax, Limit, Outcome, turns}
+use Rattle.ng_exprs.specs.Parse.{Syntax, Limit, turns}
 use Rattle.ng_exprs.specs.Statements.{ReadsStmts, EndsLong, OverIn}
 use Rattle.ng_exprs.specs.Awaits.{AwaitsBody}
 use Rattle.ng_exprs.specs.Lines.{most}

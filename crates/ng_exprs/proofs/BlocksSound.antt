@@ -1,7 +1,6 @@
 -- What the function of bodies reads is in the grammar and keeps the limits, and where it stops at a limit, one is passed.
-use Rattle.std.proofs.Common.{◌≡◌, ℕ, zero, suc, ◌+◌, ◌≤◌, List, [], ◌∷◌, ◌++◌, length, refl, sym, ◌∙◌, ap, subst, append_assoc, arith, inl, inr}
-use Rattle.std.proofs.lemmas.List.{append-nil}
-use Rattle.std.specs.Prelude.{Bool, true, false, cond, codes, Ok, Err}
+use Rattle.std.proofs.Common.{◌≡◌, ℕ, zero, suc, ◌+◌, List, [], ◌∷◌, ◌++◌, refl, sym, ◌∙◌, ap, subst, append_assoc, arith, inl}
+use Rattle.std.specs.Prelude.{Bool, true, false, cond, codes, Ok}
 use Rattle.ng_ast.specs.declared.Place.{Place}
 use Rattle.ng_ast.specs.declared.Expr.{Expr}
 use Rattle.ng_ast.specs.declared.Stmt.{Stmt}
@@ -10,17 +9,15 @@ use Rattle.ng_tokens.specs.declared.kinds.Sign.{Sign}
 use Rattle.ng_tokens.specs.declared.kinds.Sign.TheVariants as s
 use Rattle.ng_tokens.specs.declared.kinds.Kind.{Kind}
 use Rattle.ng_tokens.specs.declared.kinds.Kind.TheVariants as k
-use Rattle.ng_tokens.specs.declared.kinds.Token.{Token}
-use Rattle.ng_tokens.specs.Lexis.{same_text}
 use Rattle.ng_exprs.specs.Grammar.{Tokens, token, sign, start, origin}
 use Rattle.ng_exprs.specs.Limits.{opens}
-use Rattle.ng_exprs.specs.Parse.{Limit, Outcome, Parser, same, peek, rest, is_sign, expect, name, limit, turns}
+use Rattle.ng_exprs.specs.Parse.{Outcome, Parser, same, peek, rest, is_sign, expect, limit, turns}
 use Rattle.ng_exprs.specs.Statements.{IsExpr, IsOpen, ReadsSomeArgs, ReadsArgs, ReadsCall, ReadsSimple, ReadsTest, ReadsStmt, ReadsBlock, ReadsElse, ReadsStmts}
 use Rattle.ng_exprs.specs.Awaits.{AwaitsArg, AwaitsSimple, AwaitsBody}
 use Rattle.ng_exprs.specs.Lines.{args, simple}
 use Rattle.ng_exprs.specs.Blocks.{is_word, sees_word, is_over, block, other, only, branch, branched, conditional, statement, statements, body}
 use Rattle.ng_exprs.proofs.Outcomes.{Is, explain, weaken, case_if, seen, expect_is}
-use Rattle.ng_exprs.proofs.LinesSound.{Read, Halted, halted_in, no_tail, Closes, args_sound, simple_sound, unlimited, unlimited_args}
+use Rattle.ng_exprs.proofs.LinesSound.{Read, Halted, halted_in, no_tail, Closes, args_sound, simple_sound, unlimited}
 use Rattle.ng_exprs.proofs.BlocksComplete.{word_is}
 
 -- ---- what keeps the limits is in the grammar
@@ -176,6 +173,7 @@ one_arg (ReadsSomeArgs.next_arg x y p h i) a same_list = absurd (some i (tail sa
   where
     tail : {b a : Expr} {es : List Expr} → b ∷ es ≡ a ∷ [] → es ≡ []
     tail g = cc
+
     some : {e : ℕ} {x : Tokens} {es : List Expr} → ReadsSomeArgs true e x es → es ≡ [] → ⊥
     some (ReadsSomeArgs.last_arg h) g = cc
     some (ReadsSomeArgs.next_arg x y p h i) g = cc

@@ -1,7 +1,7 @@
 -- The laws of listeners at a whole list of tokens.
 use Rattle.std.proofs.Common.{◌≡◌, ℕ, suc, ◌<◌, List, [], ◌++◌, length, ap, subst, arith}
 use Rattle.std.proofs.lemmas.List.{append-nil}
-use Rattle.std.specs.Prelude.{true, false, Result, Ok, Err}
+use Rattle.std.specs.Prelude.{true, false, Ok, Err}
 use Rattle.ng_ast.specs.declared.Stmt.{Stmt}
 use Rattle.ng_exprs.specs.declared.halt.Halt.{Halt}
 use Rattle.ng_exprs.specs.declared.halt.Halt.TheVariants as h

@@ -14,7 +14,7 @@ use Rattle.ng_tokens.specs.declared.kinds.Kind.TheVariants as k
 use Rattle.ng_exprs.specs.Grammar.{Tokens, token, sign, start, origin, ReadsPiped}
 use Rattle.ng_exprs.specs.Limits.{opens, Within}
 use Rattle.ng_exprs.specs.Parse.{Limit, Outcome, sign_of, peek, rest, is_sign, expect, name, turns, whole}
-use Rattle.ng_exprs.specs.Statements.{IsExpr, IsOpen, ReadsSomeArgs, ReadsArgs, ReadsCall, ReadsOwner, ReadsSimple, ReadsListener, Begins, EndsLong}
+use Rattle.ng_exprs.specs.Statements.{IsExpr, IsOpen, ReadsSomeArgs, ReadsArgs, ReadsCall, ReadsOwner, ReadsSimple, ReadsListener, EndsLong}
 use Rattle.ng_exprs.specs.Awaits.{AwaitsArg, AwaitsSimple, AwaitsListener}
 use Rattle.ng_exprs.specs.Lines.{list_of, measured, args, set, run, send, apart, item, after_name, go_on, simple, is_last, listener}
 use Rattle.ng_exprs.proofs.Outcomes.{Took, Stuck, Is, Inside, explain, case_if, seen, expect_is, name_is, zero_tokens, zero_piped}

@@ -11,7 +11,6 @@ use Rattle.ng_tokens.proofs.Pieces.{not_empty}
 use Rattle.ng_tokens.proofs.Tokens as lex
 use Rattle.ng_exprs.specs.declared.halt.Halt.{Halt}
 use Rattle.ng_exprs.specs.declared.halt.Halt.TheVariants as h
-use Rattle.ng_exprs.specs.Gives.{Fails}
 use Rattle.ng_exprs.specs.Grammar.{Tokens}
 use Rattle.ng_exprs.specs.Limits.{opens, Within}
 use Rattle.ng_exprs.specs.Parse.{Syntax, Limit, Outcome}

@@ -1,5 +1,5 @@
 -- What serves the expressions of statements: with limits that may be met, within limits, and with limits that can't be met.
-use Rattle.std.proofs.Common.{◌≡◌, ℕ, suc, ◌+◌, ◌-◌, ◌<◌, ◌≤◌, List, [], ◌∷◌, ◌++◌, length, refl, sym, ◌∙◌, ap, subst, append_assoc, arith, length-append, inl, inr}
+use Rattle.std.proofs.Common.{◌≡◌, ℕ, suc, ◌+◌, ◌-◌, ◌<◌, ◌≤◌, [], ◌∷◌, ◌++◌, length, refl, sym, ◌∙◌, ap, subst, append_assoc, arith, length-append, inl, inr}
 use Rattle.std.specs.Prelude.{Bool, true, false, cond, Ok, Err, nat_lt, ◌⊎◌}
 use Rattle.ng_ast.specs.declared.Expr.{Expr}
 use Rattle.ng_tokens.specs.declared.kinds.Token.{Token}

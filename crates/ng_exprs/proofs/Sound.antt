@@ -1,9 +1,7 @@
 -- What the function reads is in the grammar, and where it stops at a limit, a limit is passed.
-use Rattle.std.proofs.Common.{◌≡◌, ℕ, zero, suc, pred, ◌+◌, ◌<◌, ◌≤◌, List, [], ◌∷◌, ◌++◌, length, refl, sym, ◌∙◌, ap, subst, append_assoc, arith, length-append}
-use Rattle.std.specs.Prelude.{Bool, true, false, Option, Some, None, Ok, Err, cond, if◌then◌else◌, ◌==◌, nat_lt, ◌⊎◌, pos}
-use Rattle.std.proofs.Common.{inl, inr}
-use denote.Enum.Bare.{same_true}
-use Rattle.ng_tokens.specs.contracts.kinds.Sign.{the_type}
+use Rattle.std.proofs.Common.{◌≡◌, ℕ, zero, suc, ◌+◌, ◌≤◌, List, [], ◌∷◌, ◌++◌, length, refl, sym, ◌∙◌, ap, subst, append_assoc, arith, length-append}
+use Rattle.std.specs.Prelude.{Bool, true, false, Option, Some, None, Ok, if◌then◌else◌, ◌==◌, nat_lt, pos}
+use Rattle.std.proofs.Common.{inl}
 use Rattle.ng_ast.specs.declared.Place.{Place}
 use Rattle.ng_ast.specs.declared.Binary.{Binary}
 use Rattle.ng_ast.specs.declared.Binary.TheVariants as binary
@@ -11,19 +9,17 @@ use Rattle.ng_ast.specs.declared.Unary.{Unary}
 use Rattle.ng_ast.specs.declared.Unary.TheVariants as unary
 use Rattle.ng_ast.specs.declared.Expr.{Expr}
 use Rattle.ng_ast.specs.declared.Expr.TheVariants as e
-use Rattle.ng_values.specs.declared.value.Value.{Value}
 use Rattle.ng_values.specs.declared.value.Value.TheVariants as v
 use Rattle.ng_tokens.specs.declared.kinds.Sign.{Sign}
 use Rattle.ng_tokens.specs.declared.kinds.Sign.TheVariants as s
 use Rattle.ng_tokens.specs.declared.kinds.Kind.{Kind}
 use Rattle.ng_tokens.specs.declared.kinds.Kind.TheVariants as k
-use Rattle.ng_tokens.specs.declared.kinds.Token.{Token}
-use Rattle.ng_exprs.specs.Grammar.{Tokens, token, sign, start, origin, written, prefixed as written_prefix, below, literal_of, key_of, Chain, Reads, ReadsAny, ReadsPiped, ReadsArguments, ReadsAll, ReadsSome, ReadsPairs, ReadsSomePairs, ReadsPair}
-use Rattle.ng_exprs.proofs.Complete.{starts, starts_chain, starts_any, starts_piped}
+use Rattle.ng_exprs.specs.Grammar.{Tokens, token, sign, start, origin, written, prefixed as written_prefix, below, Chain, Reads, ReadsAny, ReadsPiped, ReadsArguments}
+use Rattle.ng_exprs.proofs.Complete.{starts, starts_any, starts_piped}
 use Rattle.std.proofs.lemmas.List.{append-nil}
-use Rattle.ng_exprs.specs.Limits.{after, opens, Within}
+use Rattle.ng_exprs.specs.Limits.{after}
 use Rattle.ng_exprs.specs.Ends.{stops}
-use Rattle.ng_exprs.specs.Parse.{Syntax, Limit, Outcome, Parser, Brackets, brackets, and_then, same, sign_of, peek, rest, is_sign, expect, name, name_by, key, key_by, infix_at, prefix_at, of_rank, some_of, all_of, group, list, pair, rec, named, plain, atom, member, safe, index, call, followed, chain, prefixed, joins, ranked, chosen, arguments, pipe, pipes, piped, whole, follow, follow_by, prefix_by, joined, arms, atom_by, infix_of, prefix_of}
+use Rattle.ng_exprs.specs.Parse.{Parser, Brackets, brackets, peek, rest, is_sign, expect, name, infix_at, prefix_at, of_rank, chain, prefixed, joins, ranked, chosen, arguments, pipe, pipes, piped, whole, prefix_by, joined, arms, infix_of, prefix_of}
 use Rattle.ng_exprs.proofs.SoundOperands.{AnyChain, Grew, Room, chain_sound, out_of_turns, stopped}
 use Rattle.ng_exprs.proofs.Outcomes.{Calm, Inside, Is, Sound, Stuck, Took, begun, calm_append, calm_nothing, calm_one, case_if, expect_is, explain, name_is, no_tail, seen, stuck_after, stuck_as, stuck_at, stuck_in, weaken, zero_any, zero_piped, zero_tokens}
 

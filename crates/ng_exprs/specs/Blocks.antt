@@ -1,5 +1,5 @@
 -- Bodies as functions on tokens.
-use Rattle.std.specs.Prelude.{ℕ, zero, suc, Bool, true, false, if◌then◌else◌, List, [], ◌∷◌, codes, Option, Some, None, Result, Ok, Err}
+use Rattle.std.specs.Prelude.{ℕ, zero, suc, Bool, true, false, if◌then◌else◌, List, [], ◌∷◌, codes, Option, Some, None, Result, Ok}
 use Rattle.std.specs.declared.alloc.Global.{Global}
 use denote.Ref.{MutBor}
 use Rattle.ng_ast.specs.declared.Place.{Place}
@@ -12,7 +12,7 @@ use Rattle.ng_tokens.specs.declared.kinds.Kind.{Kind}
 use Rattle.ng_tokens.specs.declared.kinds.Kind.TheVariants as k
 use Rattle.ng_tokens.specs.Lexis.{same_text}
 use Rattle.ng_exprs.specs.Grammar.{Tokens, start}
-use Rattle.ng_exprs.specs.Parse.{Limit, Parser, and_then, ◌>>=◌, ◌>>◌, pure, refuse, limit, sign_of, peek, rest, is_sign, expect, name, turns}
+use Rattle.ng_exprs.specs.Parse.{Parser, ◌>>=◌, ◌>>◌, pure, refuse, limit, sign_of, peek, rest, is_sign, expect, name, turns}
 use Rattle.ng_exprs.specs.declared.halt.Halt.{Halt}
 use Rattle.ng_exprs.specs.Gives.{Gives}
 use Rattle.ng_exprs.specs.Lines.{args, simple, most}

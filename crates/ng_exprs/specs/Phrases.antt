@@ -9,7 +9,6 @@ use Rattle.ng_exprs.specs.Grammar.{Tokens}
 use Rattle.ng_exprs.specs.Statements.{Begins, PassesIn, OverIn}
 use Rattle.ng_exprs.specs.Reading.{Refused, Halts}
 
-
 -- the text, whose first byte stands at the place, is this phrase
 abbrev pub ReadsPhrase : {A : Type 0} → Bool → (Tokens → A → Type 0) → Place → Text → A → Type 0
 ReadsPhrase comments R base t a = (ts : List Token) × Lexes comments base t ts [] × R ts a

@@ -276,10 +276,19 @@ fn bodies(rt: HostRuntime) {
     for (text, want) in [
         ("", ("read", 0)),
         (" // none\n/* ; */", ("read", 0)),
-        ("n = 'a;}'; // b\nf(a, [b]); x.m(); y?.m(1); y ? .m();", ("read", 5)),
-        ("if (a) { b(); } else { c = 1; d(); } q[0].go();", ("read", 2)),
+        (
+            "n = 'a;}'; // b\nf(a, [b]); x.m(); y?.m(1); y ? .m();",
+            ("read", 5),
+        ),
+        (
+            "if (a) { b(); } else { c = 1; d(); } q[0].go();",
+            ("read", 2),
+        ),
         ("if(a){}if(b){if(c){}else{}}", ("read", 2)),
-        ("if(x); if = 1; if.m(); if?.m(); if[0].m(); if(); if(x, y);", ("read", 7)),
+        (
+            "if(x); if = 1; if.m(); if?.m(); if[0].m(); if(); if(x, y);",
+            ("read", 7),
+        ),
         ("if (a) {} else = 1; else(); else.m();", ("read", 4)),
         ("if /* a */ ( // b\n c) { } else /* d */ { }", ("read", 1)),
         ("n = 1", ("syntax", 0)),

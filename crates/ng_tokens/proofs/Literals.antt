@@ -1,22 +1,9 @@
 -- Runs of bytes, and text literals.
-use Rattle.std.proofs.Common.{◌≡◌, ℕ, zero, suc, ◌+◌, ◌-◌, ◌^◌, ◌<◌, ◌≤◌, List, [], ◌∷◌, ◌++◌, length, take, drop, refl, sym, ◌∙◌, ap, subst, append_assoc, arith, length-append, length-take, length-drop, get_or, inl, inr}
-use Rattle.std.specs.Prelude.{Bool, true, false, cond, ◌==◌, ◌⊎◌, Option, Some, None, nat_lt}
-use Rattle.std.proofs.Math.Seq.{take-append_seam, drop-append_seam}
-use Rattle.std.proofs.lemmas.List.{take-append-drop, append-nil}
+use Rattle.std.proofs.Common.{◌≡◌, ℕ, suc, ◌+◌, ◌≤◌, [], ◌∷◌, ◌++◌, length, refl, sym, ◌∙◌, ap, subst, arith, length-append}
+use Rattle.std.specs.Prelude.{Bool, true, false, cond, ◌==◌, Option, Some, None}
+use Rattle.std.proofs.lemmas.List.{append-nil}
 use Rattle.std.specs.List.{prefix_len}
-use Rattle.std.specs.Str.{IsUtf8}
-use Rattle.std.proofs.lemmas.Str.Ascii.{IsAscii-cons}
-use Rattle.std.proofs.lemmas.Str.{IsUtf8-append, IsUtf8-nil, IsUtf8-drop, IsUtf8-take, IsUtf8-from_ascii, IsCharBoundary-after_ascii, IsCharBoundary-before_ascii, IsCharBoundary-from_drop}
-use Rattle.std.specs.Option.{option_map}
-use Rattle.ng_ast.specs.declared.Place.{Place}
-use Rattle.ng_tokens.specs.declared.kinds.Sign.{Sign}
-use Rattle.ng_tokens.specs.declared.kinds.Sign.TheVariants as s
-use Rattle.ng_tokens.specs.declared.kinds.Shape.{Shape}
-use Rattle.ng_tokens.specs.declared.kinds.Shape.TheVariants as shape
-use Rattle.ng_tokens.specs.declared.kinds.Kind.{Kind}
-use Rattle.ng_tokens.specs.declared.kinds.Token.{Token}
-use Rattle.ng_tokens.specs.Lexis.{Text, is_blank, is_digit, is_letter, is_word, is_quote, in_line, escape, put, past, unquote, value_of, closes, closed, comment_len, opens_comment, step, steps, all, begins, spelling, IsRun, IsLiteral, Written, kind_of, fits, Longest, Lexes}
-use Rattle.ng_tokens.specs.Scan.{find, signs, quoted, shape as shape_at, fitted, with_len, token_at, gap, piece, before, scan_piece, scan, joined, grown}
+use Rattle.ng_tokens.specs.Lexis.{Text, is_digit, is_letter, is_word, is_quote, escape, put, past, unquote, all}
 use Rattle.ng_tokens.proofs.SignTable.{no_true}
 
 pub both_true : (x y : Bool) → cond x y false ≡ true → (x ≡ true) × (y ≡ true)
