@@ -98,10 +98,10 @@ fn copies_an_application(rt: HostRuntime) -> Result<(), Fail> {
         template: template(alloc)?,
     };
     let app = App {
-        decls: list(alloc, Decl::Component(component))?,
+        decls: Items::of(vec![in alloc; Decl::Component(component)]?),
     };
     let copy = app.copy(alloc)?;
-    assert_eq!(rt; copy.decls.len(), 1);
+    assert_eq!(rt; copy.decls.items().len(), 1);
     if let Some(Decl::Component(component)) = copy.decls.get(0) {
         assert_eq!(rt; byte_at(&component.template, 4), Some(32));
     } else {

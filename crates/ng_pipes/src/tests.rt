@@ -1,5 +1,5 @@
 use crate::builtin::{PipeId, apply};
-use ng_values::{Fault, NgText, Stop, Value, list};
+use ng_values::{Fault, NgText, Stop, Value, list, rec};
 use std::alloc::Global;
 use std::test::Fail;
 
@@ -32,6 +32,30 @@ fn pipes_of_texts(rt: HostRuntime) -> Result<(), Fail> {
         shown(apply(alloc, PipeId::Json, letters.as_slice())?)?.as_str(),
         "\"aBé\""
     );
+    Ok(())
+}
+
+#[test]
+fn pipes_after_pipes(rt: HostRuntime) -> Result<(), Fail> {
+    let alloc = rt.alloc();
+    let letters = vec![in alloc; text(alloc, "ab")?]?;
+    let capitals = apply(alloc, PipeId::Uppercase, letters.as_slice())?;
+    let ends = vec![in alloc; capitals, Value::Int(1)]?;
+    let made = apply(alloc, PipeId::Slice, ends.as_slice())?;
+    assert_eq!(rt; made.text_of(alloc)?.as_str(), "B");
+    Ok(())
+}
+
+#[test]
+fn json_orders_keys(rt: HostRuntime) -> Result<(), Fail> {
+    let alloc = rt.alloc();
+    let pairs = vec![in alloc;
+        (NgText::new(alloc, "b")?, Value::Int(1)),
+        (NgText::new(alloc, "a")?, Value::Int(2)),
+    ]?;
+    let record = vec![in alloc; rec(alloc, pairs)?]?;
+    let made = apply(alloc, PipeId::Json, record.as_slice())?;
+    assert_eq!(rt; made.text_of(alloc)?.as_str(), "{\"a\":2,\"b\":1}");
     Ok(())
 }
 

@@ -40,8 +40,8 @@ impl Path {
         })
     }
 
-    /// An equal path. A path that [`Path::shared`] or `copy` made is shared, in constant time; the
-    /// steps of one that [`Path::of`] made are copied once, by their number.
+    /// An equal path. It takes constant time for a path that [`Path::shared`] or `copy` made, and time
+    /// linear in the number of steps for one that [`Path::of`] made.
     pub fn copy(&self, alloc: Global) -> Result<Path, AllocError>
         ensures { IfOk result (λ copy. copy ≡ self.now) }
     {

@@ -11,7 +11,8 @@ use std::alloc::{AllocError, Global};
 
 /// The names of the application's tokens and environments. Services, components and tokens are tokens,
 /// numbered from 0 in the order of the file. Environments are numbered in the order of the file too,
-/// and `root` is the last where it isn't declared.
+/// and `root` is the last where it isn't declared. The names are shared, so it takes time linear in the
+/// number of declarations.
 pub fn names_of(alloc: Global, app: &App) -> Result<Names, AllocError>
     ensures tokens { IfOk result (λ names. names.tokens ≡ tokens app.now) }
     ensures environments { IfOk result (λ names. names.environments ≡ environments app.now) }

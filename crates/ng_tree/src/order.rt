@@ -1,5 +1,9 @@
-ghost use Rattle.std.specs.Prelude.{◌≡◌};
+ghost use Rattle.std.specs.Prelude.{◌≡◌, ◌↔◌, ◌⊎◌, List};
+ghost use Rattle.std.specs.Ordering.{ordering_reverse};
+ghost use Rattle.std.specs.declared.cmp.Ordering.TheVariants.{Equal};
+ghost use Rattle.ng_tree.specs.declared.Step.{Step};
 ghost use Rattle.ng_tree.specs.Order.{number, rank, rest_cmp, variant_cmp, step_cmp, path_cmp};
+ghost use Rattle.ng_tree.specs.OrderTotal.{IsUpTo};
 
 use crate::{Path, Step};
 use std::cmp::Ordering;
@@ -9,9 +13,85 @@ use std::cmp::Ordering;
 /// order of [`Step`]'s, and then by what follows from left to right; the keys of rows go as
 /// `Value::compare` has them. It takes no memory, and time linear in what the paths have in common.
 pub fn compare(a: &Path, b: &Path) -> Ordering
-    ensures { result ≡ path_cmp a.now b.now }
+    ensures exact { result ≡ path_cmp a.now b.now }
+    ensures same { (result ≡ Equal) ↔ (a.now ≡ b.now) }
 {
     compare_steps(a.items(), b.items())
+}
+
+/// The order of paths is a total order: a path isn't after itself, two paths of which neither is after
+/// the other are one path, what isn't after a path isn't after any that follows it, and of two paths
+/// one isn't after the other. Turned round, it is the order of the two the other way.
+pub fn order_is_total()
+    ensures reflexive { (p : List Step) → IsUpTo p p }
+    ensures antisymmetric { (p q : List Step) → IsUpTo p q → IsUpTo q p → p ≡ q }
+    ensures transitive { (p q r : List Step) → IsUpTo p q → IsUpTo q r → IsUpTo p r }
+    ensures total { (p q : List Step) → IsUpTo p q ⊎ IsUpTo q p }
+    ensures reversed { (p q : List Step) → path_cmp p q ≡ ordering_reverse (path_cmp q p) }
+{}
+
+impl PartialOrd for Step {
+    ghost use Rattle.std.specs.Prelude.{Some, refl};
+    ghost use Rattle.std.specs.Cmp.{partial_order_from_agreeing_total};
+    ghost use Rattle.ng_tree.specs.OrderTotal.{step_total, step_ties};
+
+    ghost partial_cmp = { λ x y. Some (step_cmp x y) };
+
+    ghost laws = { partial_order_from_agreeing_total step_cmp step_total (λ x y. refl) step_ties };
+
+    fn partial_cmp(&self, other: &Step) -> Option<Ordering> {
+        Some(compare_step(self, other))
+    }
+}
+
+/// Steps go by the node's number, then by variant, and then by what follows.
+impl Ord for Step {
+    ghost use Rattle.std.specs.Prelude.{refl};
+    ghost use Rattle.ng_tree.specs.OrderTotal.{step_total, step_ties};
+
+    ghost cmp = { step_cmp };
+
+    ghost total = { step_total };
+
+    ghost matches_partial_cmp = { λ x y. refl };
+
+    ghost matches_eq = { step_ties };
+
+    fn cmp(&self, other: &Step) -> Ordering {
+        compare_step(self, other)
+    }
+}
+
+impl PartialOrd for Path {
+    ghost use Rattle.std.specs.Prelude.{Some, refl};
+    ghost use Rattle.std.specs.Cmp.{partial_order_from_agreeing_total};
+    ghost use Rattle.ng_tree.specs.OrderTotal.{path_total, path_ties};
+
+    ghost partial_cmp = { λ x y. Some (path_cmp x y) };
+
+    ghost laws = { partial_order_from_agreeing_total path_cmp path_total (λ x y. refl) path_ties };
+
+    fn partial_cmp(&self, other: &Path) -> Option<Ordering> {
+        Some(compare(self, other))
+    }
+}
+
+/// The order of [`compare`].
+impl Ord for Path {
+    ghost use Rattle.std.specs.Prelude.{refl};
+    ghost use Rattle.ng_tree.specs.OrderTotal.{path_total, path_ties};
+
+    ghost cmp = { path_cmp };
+
+    ghost total = { path_total };
+
+    ghost matches_partial_cmp = { λ x y. refl };
+
+    ghost matches_eq = { path_ties };
+
+    fn cmp(&self, other: &Path) -> Ordering {
+        compare(self, other)
+    }
 }
 
 fn compare_steps(mine: &[Step], theirs: &[Step]) -> Ordering

@@ -1,8 +1,8 @@
 use super::*;
+use indexmap::IndexMap;
 use ng_ast::{App, Decl, Environment, Place};
 use std::alloc::{AllocError, Global};
 use std::cmp::Ordering;
-use std::collections::HashMap;
 use std::test::Fail;
 
 fn one(alloc: Global, step: Step) -> Result<Path, AllocError> {
@@ -104,6 +104,7 @@ fn paths_go_by_number_and_then_by_variant(rt: HostRuntime) -> Result<(), Fail> {
     let nine = one(alloc, Step::Child(9))?;
     let ten = one(alloc, Step::Child(10))?;
     assert_eq!(rt; compare(&nine, &ten), Ordering::Less);
+    assert!(rt; nine < ten);
     let branch = one(alloc, Step::Branch(9, 0))?;
     assert_eq!(rt; compare(&branch, &nine), Ordering::Greater);
     let root = Path::of(Vec::new(alloc));
@@ -119,11 +120,11 @@ fn nodes_and_sites_are_keys(rt: HostRuntime) -> Result<(), Fail> {
     let alloc = rt.alloc();
     let id = NodeId::At(long(alloc)?, 3);
     let site = Item::Site(Site::Element(id.copy(alloc)?)).copy(alloc)?;
-    let mut nodes = HashMap::new(alloc);
+    let mut nodes = IndexMap::new(alloc);
     nodes.insert(id.copy(alloc)?, 1u8)?;
     assert_eq!(rt; nodes.get(&id).copied(), Some(1));
     assert_eq!(rt; nodes.get(&NodeId::Root).copied(), None);
-    let mut sites = HashMap::new(alloc);
+    let mut sites = IndexMap::new(alloc);
     sites.insert(Site::Element(id), 2u8)?;
     if let Item::Site(site) = site {
         assert_eq!(rt; sites.get(&site).copied(), Some(2));

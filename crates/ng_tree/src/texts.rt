@@ -11,7 +11,8 @@ use std::alloc::{AllocError, Global};
 
 /// The text of a path: `.` for the view of the root component, and then for each step `/n` for a
 /// component, `/n?b` for a branch, `/n[KEY]` for a row, with the key as JSON and `#k` behind it where
-/// earlier rows have the same key, and `/n!t` for an outlet. It takes time linear in the bytes.
+/// earlier rows have the same key, and `/n!t` for an outlet. The form is this project's own. It takes
+/// time linear in the bytes.
 pub fn path_text(alloc: Global, path: &Path) -> Result<Vec<u8>, AllocError>
     ensures { IfOk result (λ text. text.items ≡ path_text path.now) }
 {
@@ -22,7 +23,8 @@ pub fn path_text(alloc: Global, path: &Path) -> Result<Vec<u8>, AllocError>
 
 /// The text of a site: the path of a component; the path, `:` and the number of a node, or `^` for
 /// the host of the root component; `PATH provide TOKEN` or `PATH viewprovide TOKEN` for what a
-/// component provides; `env ENVIRONMENT TOKEN` for what an environment provides.
+/// component provides; `env ENVIRONMENT TOKEN` for what an environment provides. The forms are this
+/// project's own. It takes time linear in the bytes.
 pub fn site_text(alloc: Global, site: &Site, names: &Names) -> Result<Vec<u8>, AllocError>
     requires { HasNames names.now site.now }
     ensures { IfOk result (λ text. text.items ≡ site_text names.now site.now) }

@@ -13,10 +13,15 @@ use crate::text::NgText;
 use crate::value::Value;
 use std::alloc::{AllocError, Global};
 
-/// A call of a method: `concat`, `slice`, `with`, `toSpliced`, `indexOf` and `includes` of a list, `with` of a record. Surplus
-/// arguments are dropped and missing ones are null. NullRead on null, NoMember where there is no such method, WrongKind where an
-/// argument is of another kind, below 0, or for `with` of a list out of range; ValueTooLarge and ValueTooDeep as for `list` and
-/// `rec`. Items are shared and not copied. It takes time linear in the items, and for `indexOf` and `includes` in their content.
+/// A call of a method, with arguments from 0 on. Of a list: `concat(l)` has the items of both; `slice(a, b)` those from a up to before
+/// b; `with(i, v)` has v in the place of item i; `toSpliced(i, n)` lacks n items from i on; `indexOf(v)` is the first place of v, or -1;
+/// `includes(v)` whether it stands there. Of a record: `with(k, v)` has v at the key k. Ends beyond the length stand for it, and so does
+/// null for b and n. Surplus arguments are dropped and missing ones are null.
+///
+/// NullRead on null, NoMember where there is no such method, WrongKind where an argument is of another kind, below 0, or for `with` of a
+/// list out of range; ValueTooLarge and ValueTooDeep as for `list` and `rec`. Items are shared and not copied. It takes time linear in
+/// the items, for `indexOf` and `includes` in their content, and for n pairs of a record n log n comparisons of keys. The names are those
+/// of JavaScript's arrays, and what they answer for wrong arguments, and `with` of a record, is this project's own.
 pub fn invoke(alloc: Global, of: &Value, name: &str, args: &[Value]) -> Result<Value, Stop>
     ensures { Answers (invoked of.now name.now args.now) result }
 {
@@ -77,7 +82,7 @@ pub fn argument(args: &[Value], at: usize) -> Result<Value, AllocError>
     }
 }
 
-/// An argument as a number from 0 on: WrongKind for a number below 0 and for other kinds.
+/// An argument as a number from 0 on: WrongKind for a number below 0 and for other kinds, null among them.
 pub fn natural(value: &Value) -> Result<usize, Fault>
     ensures { result ≡ natural_of value.now }
 {
@@ -87,7 +92,7 @@ pub fn natural(value: &Value) -> Result<usize, Fault>
     }
 }
 
-/// The same, where null stands for another number.
+/// The same, where null stands for the number `otherwise`.
 pub fn natural_or(otherwise: usize, value: &Value) -> Result<usize, Fault>
     ensures { result ≡ natural_or_of otherwise value.now }
 {

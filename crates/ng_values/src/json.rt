@@ -12,7 +12,8 @@ use std::alloc::{AllocError, Global};
 
 impl Value {
     /// The bytes of the JSON form: compact, with the keys of a record in their order. In a text a quote, a backslash and the
-    /// control characters are escaped, and all else stands as it is. It takes time linear in the bytes.
+    /// control characters are escaped, and all else stands as it is, as in JavaScript's `JSON.stringify`. It takes time linear in the
+    /// bytes.
     pub fn json_of(&self, alloc: Global) -> Result<Vec<u8>, AllocError>
         ensures { IfOk result (λ written. written.items ≡ json (plain self.now)) }
     {

@@ -8,7 +8,8 @@ ghost use Rattle.ng_values.specs.Numbers.{difference, product, quotient, remaind
 use crate::fault::Fault;
 use crate::value::Value;
 
-/// The operator `-` of two numbers: Overflow where the difference has no 64 bits, WrongKind for other operands.
+/// The operator `-` of two numbers: Overflow where the difference is outside the 64 bits of a signed integer, WrongKind for other
+/// operands.
 pub fn sub(a: &Value, b: &Value) -> Result<Value, Fault>
     ensures { result ≡ difference a.now b.now }
 {
@@ -18,7 +19,8 @@ pub fn sub(a: &Value, b: &Value) -> Result<Value, Fault>
     }
 }
 
-/// The operator `*` of two numbers: Overflow where the product has no 64 bits, WrongKind for other operands.
+/// The operator `*` of two numbers: Overflow where the product is outside the 64 bits of a signed integer, WrongKind for other
+/// operands.
 pub fn mul(a: &Value, b: &Value) -> Result<Value, Fault>
     ensures { result ≡ product a.now b.now }
 {
@@ -50,7 +52,8 @@ pub fn rem(a: &Value, b: &Value) -> Result<Value, Fault>
     }
 }
 
-/// The operator `<` of two numbers, or of two texts by their bytes: WrongKind for other operands.
+/// The operator `<` of two numbers, or of two texts by their bytes, in time linear in what these have in common: WrongKind for other
+/// operands.
 pub fn less(a: &Value, b: &Value) -> Result<Value, Fault>
     ensures { result ≡ precedes a.now b.now }
 {
