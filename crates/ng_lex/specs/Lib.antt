@@ -6,3 +6,5 @@ pub mod Attributes
 pub mod Heads
 pub mod Lexis
 pub mod Heavy
+pub mod Spans
+pub mod Span

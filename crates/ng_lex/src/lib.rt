@@ -5,8 +5,10 @@ mod attributes;
 mod letters;
 mod markup;
 mod quotes;
+mod spans;
 
 pub use attributes::NameForm;
 pub use letters::PlacedLetter;
 pub use markup::{Letter, Markup, Part, Shape};
 pub use quotes::Quoting;
+pub use spans::{Token, TokenKind};

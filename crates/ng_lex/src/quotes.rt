@@ -7,3 +7,11 @@ pub enum Quoting {
     Within(u8),
     Escaped(u8),
 }
+
+/// The quotes that count: those of text literals, with their escapes, those of the values of attributes, or none.
+#[derive(Clone, Copy, Debug, PartialEq, Eq)]
+pub(crate) enum Quotes {
+    Literals,
+    Values,
+    None,
+}
