@@ -6,8 +6,8 @@ use Rattle.std.specs.List.{prefix_len}
 use Rattle.std.specs.Option.{option_map}
 use Rattle.ng_tokens.specs.Lexis.{Text, is_blank, is_letter, is_word, all, begins, is_one_of}
 use Rattle.ng_exprs.specs.Ends.{end_from, later}
-use Rattle.ng_lex.specs.declared.spans.TokenKind.{TokenKind}
-use Rattle.ng_lex.specs.declared.spans.TokenKind.TheVariants as kind
+use Rattle.ng_lex.specs.declared.kinds.TokenKind.{TokenKind}
+use Rattle.ng_lex.specs.declared.kinds.TokenKind.TheVariants as kind
 use Rattle.ng_lex.specs.declared.quotes.Quoting.TheVariants.{Outside}
 use Rattle.ng_lex.specs.Words.{IsBlank, IsGap, IsName, literal, valued, unquoted, First, at_front, opening, closing}
 use Rattle.ng_lex.specs.Attributes.{is_lower}
@@ -81,7 +81,7 @@ start_spans (b ∷ t) z e h =
 blank_is : (w : Text) (c : ℕ) (z : Text) → IsBlank w → is_blank c ≡ false → blank_len (w ++ (c ∷ z)) ≡ length w
 blank_is w c z h e = run_len is_blank w (c ∷ z) h e
 
-after_blank : (w z : Text) (n : ℕ) → n ≡ length w → drop n (w ++ z) ≡ z
+pub after_blank : (w z : Text) (n : ℕ) → n ≡ length w → drop n (w ++ z) ≡ z
 after_blank w z n e = ap (λ k. drop k (w ++ z)) e ∙ drop-append_seam w z
 
 pub brace_is : (w z : Text) → IsBlank w → brace_len (w ++ (123 ∷ z)) ≡ Some (length w + 1)
@@ -95,7 +95,7 @@ round_over [] z n e = ap (λ m. round_len m z) e ∙ sym (later_none (round_len 
 round_over (b ∷ a) z zero e = absurd (omega arith)
 round_over (b ∷ a) z (suc n) e = ap (option_map suc) (round_over a z n (omega arith)) ∙ later_suc (length a) (round_len 0 z)
 
-abbrev round_then : ℕ → ℕ → Text → Option ℕ
+abbrev pub round_then : ℕ → ℕ → Text → Option ℕ
 round_then c n z = if c == 41 then Some (n + 1) else (if c == 59 then later (n + 1) (round_len 0 z) else None)
 
 get_seam : (t : Text) (c : ℕ) (z : Text) → slice_get (t ++ (c ∷ z)) (length t) ≡ Some c
@@ -112,8 +112,10 @@ round_step (b ∷ t) c z e = round_first b (t ++ (c ∷ z)) (length (b ∷ t)) c
   where
     size : suc (length (t ++ (c ∷ []))) ≡ length (b ∷ t) + 1
     size = omega (arith, length-append t (c ∷ []))
+
     same : length (b ∷ t) ≡ length (t ++ (c ∷ []))
     same = omega (arith, length-append t (c ∷ []))
+
     over : option_map suc (round_len (length (b ∷ t)) (t ++ (c ∷ z))) ≡ later (length (b ∷ t) + 1) (round_len 0 z)
     over =
         ap (λ k. option_map suc (round_len (length (b ∷ t)) k)) (sym (append_assoc t (c ∷ []) z)) ∙ ap (option_map suc) (round_over (t ++ (c ∷ [])) z (length (b ∷ t)) same)
@@ -136,12 +138,16 @@ bracket_is w x v z h i f = ap (λ n. bracket_by n (bracket_text w x v z)) (blank
   where
     past : (w t : Text) → drop (length w + 1) (w ++ (40 ∷ t)) ≡ t
     past w t = ap (λ k. drop (length w + 1) k) (sym (append_assoc w (40 ∷ []) t)) ∙ after_blank (w ++ (40 ∷ [])) t (length w + 1) (omega (arith, length-append w (40 ∷ [])))
+
     inside : Text
     inside = x ++ (41 ∷ (v ++ (123 ∷ z)))
+
     brace : brace_len (drop (length x + 1) inside) ≡ Some (length v + 1)
     brace = ap brace_len (ap (λ k. drop (length x + 1) k) (sym (append_assoc x (41 ∷ []) (v ++ (123 ∷ z)))) ∙ after_blank (x ++ (41 ∷ [])) (v ++ (123 ∷ z)) (length x + 1) (omega (arith, length-append x (41 ∷ [])))) ∙ brace_is v z i
+
     closed : closed_by inside (round_len 0 inside) ≡ Some ((length x + 1) + (length v + 1))
     closed = ap (closed_by inside) (round_is f) ∙ ap (later (length x + 1)) brace
+
     from : drop (length w) (bracket_text w x v z) ≡ 40 ∷ inside → drop (length w + 1) (bracket_text w x v z) ≡ inside → bracket_by (length w) (bracket_text w x v z) ≡ Some ((length w + 1) + ((length x + 1) + (length v + 1)))
     from e g = rw e (rw g (ap (later (length w + 1)) closed))
 
@@ -206,6 +212,7 @@ else_if w t n h e = ap (λ k. else_by k (w ++ (codes "if" ++ t))) (blank_is w 10
   where
     past : drop (length w + 2) (w ++ (codes "if" ++ t)) ≡ t
     past = ap (λ k. drop (length w + 2) k) (sym (append_assoc w (codes "if") t)) ∙ after_blank (w ++ codes "if") t (length w + 2) (omega (arith, length-append w (codes "if")))
+
     from : drop (length w) (w ++ (codes "if" ++ t)) ≡ codes "if" ++ t → drop (length w + 2) (w ++ (codes "if" ++ t)) ≡ t → else_by (length w) (w ++ (codes "if" ++ t)) ≡ Some ((length w + 2) + n)
     from f g = rw f (rw (gap_blank w h).1 (rw g (rw e refl)))
 
@@ -225,12 +232,14 @@ head_spans (IsHead.braced word w z e h) = ap span regroup ∙ brace_word word e 
   where
     regroup : (word ++ (w ++ (123 ∷ []))) ++ z ≡ word ++ (w ++ (123 ∷ z))
     regroup = append_assoc word (w ++ (123 ∷ [])) z ∙ ap (λ k. word ++ k) (append_assoc w (123 ∷ []) z)
+
     size : length word + (length w + 1) ≡ length (word ++ (w ++ (123 ∷ [])))
     size = omega (arith, length-append word (w ++ (123 ∷ [])), length-append w (123 ∷ []))
 head_spans (IsHead.bracketed word w x v z e h i f) = ap span regroup ∙ bracket_any word e (bracket_text w x v z) _ (bracket_is w x v z h i f) ∙ ap (λ n. Some (kind.Head, n)) size
   where
     regroup : (word ++ bracket_text w x v []) ++ z ≡ word ++ bracket_text w x v z
     regroup = simp append_assoc refl
+
     size : length word + ((length w + 1) + ((length x + 1) + (length v + 1))) ≡ length (word ++ bracket_text w x v [])
     size = omega (arith, length-append word (bracket_text w x v []), length-append w (40 ∷ (x ++ (41 ∷ (v ++ (123 ∷ []))))), length-append x (41 ∷ (v ++ (123 ∷ []))), length-append v (123 ∷ []))
 
@@ -278,10 +287,13 @@ let_is w n v t z h i j e = rw (front_is w n v (t ++ (59 ∷ z)) h i j) (ap (λ k
   where
     front : Text
     front = w ++ (n ++ (v ++ (61 ∷ [])))
+
     size : length w + (length n + (length v + 1)) ≡ length front
     size = omega (arith, length-append w (n ++ (v ++ (61 ∷ []))), length-append n (v ++ (61 ∷ [])), length-append v (61 ∷ []))
+
     regroup : w ++ (n ++ (v ++ (61 ∷ (t ++ (59 ∷ z))))) ≡ front ++ (t ++ (59 ∷ z))
     regroup = simp append_assoc refl
+
     past : drop (length w + (length n + (length v + 1))) (w ++ (n ++ (v ++ (61 ∷ (t ++ (59 ∷ z)))))) ≡ t ++ (59 ∷ z)
     past = ap (drop (length w + (length n + (length v + 1)))) regroup ∙ after_blank front (t ++ (59 ∷ z)) _ size
 
@@ -291,6 +303,7 @@ let_spans x t n z (w, v, same, h, i, j) e =
   where
     regroup : ((codes "@let" ++ (w ++ (n ++ (v ++ (61 ∷ []))))) ++ (t ++ (59 ∷ []))) ++ z ≡ codes "@let" ++ (w ++ (n ++ (v ++ (61 ∷ (t ++ (59 ∷ z))))))
     regroup = simp append_assoc refl
+
     size : 4 + ((length w + (length n + (length v + 1))) + (length t + 1)) ≡ length ((codes "@let" ++ (w ++ (n ++ (v ++ (61 ∷ []))))) ++ (t ++ (59 ∷ [])))
     size = omega (arith, length-append (w ++ (n ++ (v ++ (61 ∷ [])))) (t ++ (59 ∷ [])), length-append w (n ++ (v ++ (61 ∷ []))), length-append n (v ++ (61 ∷ [])), length-append v (61 ∷ []), length-append t (59 ∷ []))
 

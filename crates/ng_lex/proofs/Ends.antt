@@ -191,10 +191,13 @@ over_variable y v c z (w, u, e, bw, bu) d k = subst (λ x. end_from 0 0 (61 ∷ 
   where
     spaced : Over (w ++ (v ++ u)) (c ∷ z)
     spaced = over_append w (v ++ u) (c ∷ z) (end_blank w ((v ++ u) ++ (c ∷ z)) bw) (over_append v u (c ∷ z) (end_variable v (u ++ (c ∷ z)) d (blanks_no_word u c z bu k)) (end_blank u (c ∷ z) bu))
+
     regroup : (w ++ (v ++ u)) ++ (c ∷ z) ≡ w ++ (v ++ (u ++ (c ∷ z)))
     regroup = append_assoc w (v ++ u) (c ∷ z) ∙ ap (λ x. w ++ x) (append_assoc v u (c ∷ z))
+
     size : (n : ℕ) → 1 + n ≡ suc n
     size n = omega arith
+
     whole : end_from 0 0 (61 ∷ ((w ++ (v ++ u)) ++ (c ∷ z))) ≡ later (length (61 ∷ (w ++ (v ++ u)))) (end_from 0 0 (c ∷ z))
     whole =
         ap (λ x. end_from 0 0 (61 ∷ x)) regroup ∙ over_equals w v (u ++ (c ∷ z)) bw d ∙ ap (λ x. later 1 (end_from 0 0 x)) (sym regroup) ∙ ap (later 1) spaced

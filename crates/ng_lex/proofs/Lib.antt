@@ -5,3 +5,5 @@ pub mod Written
 pub mod Complete
 pub mod Sound
 pub mod Cutting
+pub mod Boundaries
+pub mod Loops

@@ -7,8 +7,8 @@ use Rattle.std.specs.Option.{option_map}
 use Rattle.ng_tokens.specs.Lexis.{Text, is_blank, is_letter, is_word, all, begins, is_one_of}
 use Rattle.ng_exprs.specs.Ends.{end_from, later}
 use Rattle.ng_lex.specs.declared.quotes.Quoting.{Quoting}
-use Rattle.ng_lex.specs.declared.spans.TokenKind.{TokenKind}
-use Rattle.ng_lex.specs.declared.spans.TokenKind.TheVariants as kind
+use Rattle.ng_lex.specs.declared.kinds.TokenKind.{TokenKind}
+use Rattle.ng_lex.specs.declared.kinds.TokenKind.TheVariants as kind
 use Rattle.ng_lex.specs.declared.quotes.Quoting.TheVariants.{Outside}
 use Rattle.ng_lex.specs.Words.{IsBlank, IsGap, IsName, literal, valued, unquoted, First, at_front, opening, closing}
 use Rattle.ng_lex.specs.Attributes.{is_lower}
@@ -93,7 +93,7 @@ brace t n e =
     record { blank = b.blank; rest = b.more; is = b.is; passes = b.passes; long = omega (arith, g.1, b.long) }
 
 -- at a byte, by its number
-get_split : (t : Text) (n c : ℕ) → slice_get t n ≡ Some c → (x r : Text) × (t ≡ x ++ (c ∷ r)) × (length x ≡ n)
+pub get_split : (t : Text) (n c : ℕ) → slice_get t n ≡ Some c → (x r : Text) × (t ≡ x ++ (c ∷ r)) × (length x ≡ n)
 get_split [] n c e = absurd (cc)
 get_split (b ∷ t) zero c e = let f : b ≡ c = some_same e in ([], t, ap (λ k. k ∷ t) f, refl)
 get_split (b ∷ t) (suc n) c e = let g = get_split t n c e in (b ∷ g.0, g.1, ap (λ k. b ∷ k) g.2, ap suc g.3)
@@ -134,6 +134,7 @@ round_front b s n go (Some m) e f = at (slice_get (b ∷ s) m) refl f
       where
         cut : (x r : Text) × (b ∷ s ≡ x ++ (c ∷ r)) × (length x ≡ m)
         cut = get_split (b ∷ s) m c g
+
         by : (v w : Bool) → (c == 41) ≡ v → (c == 59) ≡ w → cond v (Some (m + 1)) (cond w (option_map suc (round_len m s)) None) ≡ Some n → Rounds (b ∷ s) n
         by true w i j f =
             let same : c ≡ 41 = same_byte c 41 i in
@@ -266,8 +267,10 @@ bracketed_takes word u n e b = record {
   where
     inner : Text → Text → Text → Text
     inner w x v = w ++ (40 ∷ (x ++ (41 ∷ (v ++ (123 ∷ [])))))
+
     regroup : (w x v r : Text) → word ++ (w ++ (40 ∷ (x ++ (41 ∷ (v ++ (123 ∷ r)))))) ≡ (word ++ (w ++ (40 ∷ (x ++ (41 ∷ (v ++ (123 ∷ []))))))) ++ r
     regroup w x v r = simp append_assoc refl
+
     size : (w x v : Text) → length (w ++ (40 ∷ (x ++ (41 ∷ (v ++ (123 ∷ [])))))) ≡ (length w + 1) + ((length x + 1) + (length v + 1))
     size w x v = omega (arith, length-append w (40 ∷ (x ++ (41 ∷ (v ++ (123 ∷ []))))), length-append x (41 ∷ (v ++ (123 ∷ []))), length-append v (123 ∷ []))
 
@@ -394,18 +397,18 @@ named t n e =
     let q : Equals m.rest k.0 = equals m.rest k.0 (ap equals_len (sym rest) ∙ k.1) in
     record { name = m.name; blank = q.blank; rest = q.rest; is = m.is ∙ ap (λ x. m.name ++ x) q.is; word = m.word; passes = q.passes; long = omega (arith, k.2, m.long, q.long) }
 
-record Front (t : Text) (n : ℕ) : Type 0 where
-  white : Text
-  name : Text
-  blank : Text
-  rest : Text
-  is : t ≡ white ++ (name ++ (blank ++ (61 ∷ rest)))
-  gap : IsGap white
-  word : IsName name
-  passes : IsBlank blank
-  long : n ≡ length white + (length name + (length blank + 1))
+pub record Front (t : Text) (n : ℕ) : Type 0 where
+  pub white : Text
+  pub name : Text
+  pub blank : Text
+  pub rest : Text
+  pub is : t ≡ white ++ (name ++ (blank ++ (61 ∷ rest)))
+  pub gap : IsGap white
+  pub word : IsName name
+  pub passes : IsBlank blank
+  pub long : n ≡ length white + (length name + (length blank + 1))
 
-front : (t : Text) (n : ℕ) → front_len t ≡ Some n → Front t n
+pub front : (t : Text) (n : ℕ) → front_len t ≡ Some n → Front t n
 unfolding front_len
 front t n e =
     let g = given (nat_lt 0 (blank_len t)) (later (blank_len t) (named_len (drop (blank_len t) t))) n e in
@@ -432,7 +435,7 @@ record Ended (t : Text) (n : ℕ) : Type 0 where
   long : n ≡ length inside + 1
 
 -- a byte at the front of what is left, by its number
-drop_split : (t : Text) (n c : ℕ) → begins (c ∷ []) (drop n t) ≡ true → (x r : Text) × (t ≡ x ++ (c ∷ r)) × (length x ≡ n)
+pub drop_split : (t : Text) (n c : ℕ) → begins (c ∷ []) (drop n t) ≡ true → (x r : Text) × (t ≡ x ++ (c ∷ r)) × (length x ≡ n)
 drop_split t zero c e = let r : (r : Text) × (t ≡ c ∷ r) = begins_is (c ∷ []) t e in ([], r.0, r.1, refl)
 drop_split [] (suc n) c e = absurd (no_true e)
 drop_split (b ∷ t) (suc n) c e = let g = drop_split t n c e in (b ∷ g.0, g.1, ap (λ k. b ∷ k) g.2, ap suc g.3)
@@ -468,8 +471,10 @@ let_at u (Some m) e n f =
   where
     regroup : (a b c r : Text) → a ++ (b ++ (c ++ (61 ∷ r))) ≡ (a ++ (b ++ (c ++ (61 ∷ [])))) ++ r
     regroup a b c r = simp append_assoc refl
+
     front_size : (a b c : Text) → length (a ++ (b ++ (c ++ (61 ∷ [])))) ≡ length a + (length b + (length c + 1))
     front_size a b c = omega (arith, length-append a (b ++ (c ++ (61 ∷ []))), length-append b (c ++ (61 ∷ [])), length-append c (61 ∷ []))
+
     regroup_all : (x t r : Text) → codes "@let" ++ (x ++ (t ++ (59 ∷ r))) ≡ ((codes "@let" ++ x) ++ (t ++ (59 ∷ []))) ++ r
     regroup_all x t r = simp append_assoc refl
 

@@ -138,6 +138,7 @@ found_more f w s b t n e h = record {
   where
     same : begins w (b ∷ (h.front ++ w)) ≡ begins w (b ∷ t)
     same = sym (begins_front w (b ∷ (h.front ++ w)) h.rest (omega (arith, length-append h.front w))) ∙ ap (λ z. begins w (b ∷ z)) (append_assoc h.front w h.rest ∙ sym h.is)
+
     miss : (c : Bool) → begins w (b ∷ (h.front ++ w)) ≡ begins w (b ∷ t) → cond c (begins w (b ∷ t)) false ≡ false → cond c (begins w (b ∷ (h.front ++ w))) false ≡ false
     miss c i j = rw i j
 

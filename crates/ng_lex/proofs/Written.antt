@@ -10,8 +10,8 @@ use Rattle.ng_exprs.specs.Reading.{ReadsExpr}
 use Rattle.ng_exprs.proofs.Closing.{ends}
 use Rattle.ng_lex.specs.declared.markup.Markup.{Markup}
 use Rattle.ng_lex.specs.declared.markup.Markup.TheVariants as m
-use Rattle.ng_lex.specs.declared.spans.TokenKind.{TokenKind}
-use Rattle.ng_lex.specs.declared.spans.TokenKind.TheVariants as kind
+use Rattle.ng_lex.specs.declared.kinds.TokenKind.{TokenKind}
+use Rattle.ng_lex.specs.declared.kinds.TokenKind.TheVariants as kind
 use Rattle.ng_lex.specs.declared.quotes.Quoting.TheVariants.{Outside}
 use Rattle.ng_lex.specs.Words.{IsBlank, valued, unquoted, after, Clear, First, is_run, at_front}
 use Rattle.ng_lex.specs.Attributes.{ending, ReadsAttrs, is_lower, in_tag, IsTag, IsPaired, IsSingle}
@@ -40,6 +40,7 @@ tag_span tag x z h reads =
     same_front : (s : Text) → at_front is_lower (s ++ (62 ∷ [])) ≡ true → at_front is_lower s ≡ true
     same_front [] e = absurd (no_true e)
     same_front (b ∷ s) e = e
+
     front : (y : Text) → tag ++ x ≡ y ++ (62 ∷ []) → at_front is_lower y ≡ true
     front y e = same_front y (ap (at_front is_lower) (sym e) ∙ first_lower tag x h)
 
@@ -62,6 +63,7 @@ free_first x h = (calm x, clear x h)
     calm : (x : Text) → after unquoted Outside x ≡ Outside
     calm [] = refl
     calm (b ∷ x) = calm x
+
     clear : (x : Text) → Free x → Clear unquoted (62 ∷ []) Outside x (62 ∷ [])
     clear [] h = tt
     clear (b ∷ x) h = (rw h.0 refl, clear x h.1)

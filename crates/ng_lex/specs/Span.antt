@@ -1,26 +1,37 @@
 -- The same as a function: the next token's kind and how many bytes it has.
-use Rattle.std.specs.Prelude.{◌≡◌, ℕ, zero, suc, ◌+◌, ◌-◌, Bool, true, false, ◌==◌, ◌&&◌, nat_lt, if◌then◌else◌, List, [], ◌∷◌, ◌++◌, length, drop, codes, Option, Some, None, slice_get}
+use Rattle.std.specs.Prelude.{◌≡◌, ℕ, zero, suc, ◌+◌, ◌-◌, Bool, true, false, ◌==◌, ◌&&◌, nat_lt, if◌then◌else◌, List, [], ◌∷◌, ◌++◌, length, drop, codes, Option, Some, None, Result, Ok, Err, Vec, slice_get}
+use Rattle.std.specs.declared.alloc.Global.{Global}
 use Rattle.std.specs.List.{prefix_len}
 use Rattle.std.specs.Option.{option_map}
 use Rattle.ng_tokens.specs.Lexis.{Text, is_blank, is_letter, is_word, begins}
+use Rattle.ng_ast.specs.declared.refusals.ReadError.{ReadError}
 use Rattle.ng_exprs.specs.Ends.{end_from, later}
+use Rattle.ng_exprs.specs.Reading.{Refused}
 use Rattle.ng_lex.specs.declared.quotes.Quoting.{Quoting}
 use Rattle.ng_lex.specs.declared.quotes.Quoting.TheVariants.{Outside}
 use Rattle.ng_lex.specs.declared.quotes.Quotes.{Quotes}
 use Rattle.ng_lex.specs.declared.quotes.Quotes.TheVariants as quotes
-use Rattle.ng_lex.specs.declared.spans.TokenKind.{TokenKind}
-use Rattle.ng_lex.specs.declared.spans.TokenKind.TheVariants as kind
-use Rattle.ng_lex.specs.declared.spans.Token.{Token}
+use Rattle.ng_lex.specs.declared.kinds.TokenKind.{TokenKind}
+use Rattle.ng_lex.specs.declared.kinds.TokenKind.TheVariants as kind
+use Rattle.ng_lex.specs.declared.kinds.Token.{Token}
 use Rattle.ng_lex.specs.Words.{is_outside, literal, valued, unquoted, at_front, closing}
 use Rattle.ng_lex.specs.Attributes.{is_lower}
 use Rattle.ng_lex.specs.Lexis.{is_plain, comment_closing}
 
 -- ---- runs and words
 
+abbrev pub is_ascii : ℕ → Bool
+is_ascii b = nat_lt b 128
+
 -- the bytes of literal text at the front
 abbrev pub plain_len : Text → ℕ
 plain_len [] = 0
 plain_len (b ∷ t) = if is_plain b t then suc (plain_len t) else 0
+
+-- literal text stands at the front
+abbrev pub starts_plain : Text → Bool
+starts_plain [] = false
+starts_plain (b ∷ t) = is_plain b t
 
 -- what these quotes make of a byte
 abbrev pub quoted : Quotes → Quoting → ℕ → Quoting
@@ -172,3 +183,14 @@ unfoldable pub cut : ℕ → ℕ → Text → Option (List Token)
 cut left n [] = Some []
 cut (suc left) n (b ∷ t) = cut left n t
 cut zero n (b ∷ t) = cut_by n (λ k. cut (k - 1) (n + k) t) (span (b ∷ t))
+
+-- ---- what the code gives
+
+-- what was found stands before what is to come
+abbrev pub joined : List Token → Option (List Token) → Option (List Token)
+joined found None = None
+joined found (Some ts) = Some (found ++ ts)
+
+abbrev pub Gives : Option (List Token) → Result (Vec Token Global) ReadError → Type 0
+Gives o (Ok v) = o ≡ Some v.items
+Gives o (Err e) = Refused (o ≡ None) ⊥ e

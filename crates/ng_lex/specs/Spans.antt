@@ -7,9 +7,9 @@ use Rattle.ng_lex.specs.declared.markup.Markup.TheVariants as m
 use Rattle.ng_lex.specs.declared.markup.Part.{Part}
 use Rattle.ng_lex.specs.declared.markup.Shape.{Shape}
 use Rattle.ng_lex.specs.declared.markup.Shape.TheVariants as s
-use Rattle.ng_lex.specs.declared.spans.TokenKind.{TokenKind}
-use Rattle.ng_lex.specs.declared.spans.TokenKind.TheVariants as kind
-use Rattle.ng_lex.specs.declared.spans.Token.{Token}
+use Rattle.ng_lex.specs.declared.kinds.TokenKind.{TokenKind}
+use Rattle.ng_lex.specs.declared.kinds.TokenKind.TheVariants as kind
+use Rattle.ng_lex.specs.declared.kinds.Token.{Token}
 use Rattle.ng_lex.specs.Words.{IsBlank, literal, valued, unquoted, First, at_front, opening, closing}
 use Rattle.ng_lex.specs.Attributes.{is_lower}
 use Rattle.ng_lex.specs.Heads.{IsElseIf, IsLetFront, EndsAfter}
@@ -91,6 +91,7 @@ AreOf n [] [] = Unit {0}
 AreOf n (p ∷ ps) (t ∷ ts) = (t.kind ≡ kind_of p.markup) × (p.place.byte ≡ n + t.from) × AreOf n ps ts
 AreOf n _ _ = ⊥
 
--- the text falls into no parts
-abbrev pub HasNoParts : Text → Type 0
-HasNoParts t = (p : Place) (ps : List Part) → Lexes p t ps [] → ⊥
+-- The text falls into no tokens, and so into no parts.
+pub record IsUncut (t : Text) : Type 0 where
+  pub tokens : (ts : List Token) → Cuts 0 t ts → ⊥
+  pub parts : (p : Place) (ps : List Part) → Lexes p t ps [] → ⊥

@@ -2,13 +2,20 @@
 #![tactic(auto)]
 
 mod attributes;
+mod heads;
+mod kinds;
 mod letters;
 mod markup;
 mod quotes;
 mod spans;
+mod words;
 
 pub use attributes::NameForm;
+pub use kinds::{Token, TokenKind};
 pub use letters::PlacedLetter;
 pub use markup::{Letter, Markup, Part, Shape};
 pub use quotes::Quoting;
-pub use spans::{Token, TokenKind};
+pub use spans::{span, tokens};
+
+#[cfg(test)]
+mod tests;
