@@ -12,14 +12,19 @@ use Rattle.ng_tokens.specs.declared.kinds.Shape.TheVariants as form
 use Rattle.ng_tokens.specs.declared.kinds.Token.{Token}
 use Rattle.ng_tokens.specs.Lexis.{Text, is_blank, is_digit, is_letter, is_word, is_quote, begins, unquote, opens_comment, Written, Longest, kind_of, Lexes}
 use Rattle.ng_tokens.specs.Scan.{find, signs, quoted, shape}
-use Rattle.ng_tokens.proofs.Tokens.{no_true, Cut, cut_literal, shape_is, not_empty, no_blank, after_some}
+use Rattle.ng_tokens.proofs.SignTable.{no_true}
+use Rattle.ng_tokens.proofs.Literals.{Cut, cut_literal}
+use Rattle.ng_tokens.proofs.Shapes.{shape_is}
+use Rattle.ng_tokens.proofs.Pieces.{not_empty, no_blank}
+use Rattle.ng_tokens.proofs.Scanning.{after_some}
 use Rattle.ng_exprs.specs.Grammar.{Tokens, ReadsPiped}
 use Rattle.ng_exprs.specs.Limits.{after, opens}
 use Rattle.ng_exprs.specs.Parse.{Outcome, Syntax, Limit, whole}
 use Rattle.ng_exprs.specs.Reading.{ReadsExpr}
 use Rattle.ng_exprs.specs.Ends.{IsEnd, stops, kind_by, end_from, later, Advances}
 use Rattle.ng_exprs.proofs.Complete.{Gets, complete}
-use Rattle.ng_exprs.proofs.Sound.{NoStop, Calm, Took, Stuck, Is, Inside, sound}
+use Rattle.ng_exprs.proofs.Outcomes.{NoStop, Calm, Took, Stuck, Is, Inside}
+use Rattle.ng_exprs.proofs.Sound.{sound}
 use Rattle.ng_exprs.proofs.Public.{no_limit}
 
 -- ---- a token before `)` or `;` is the token that it is at the end of a text
@@ -171,7 +176,7 @@ taken_calm n x a (Err Limit) k g none = absurd (none k)
 taken_calm n x a (Err Syntax) k g none = absurd g
 
 pub calm_of : (x : Tokens) (a : Expr) → ReadsPiped x a → (d : ℕ) × Calm d x
-calm_of x a h = let n : ℕ = suc (length x) in taken_calm n x a (whole n n x) (sound n n x) (complete h n n) (no_limit x)
+calm_of x a h = let n : ℕ = suc (length x) in taken_calm n x a (whole n n x) (sound n n x) (complete h n n) (no_limit n n x (omega arith) (omega arith))
 
 -- ---- the law
 pub ends : (p : Place) (x : Text) (a : Expr) (c : ℕ) (z : Text) → ReadsExpr false p x a → IsEnd c → end_from 0 0 (x ++ c ∷ z) ≡ Some (length x)

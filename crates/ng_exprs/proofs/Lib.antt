@@ -1,4 +1,6 @@
 pub mod Complete
+pub mod Outcomes
+pub mod SoundOperands
 pub mod Sound
 pub mod Public
 pub mod Turns
@@ -7,6 +9,13 @@ pub mod Whole
 pub mod Closing
 pub mod LinesComplete
 pub mod LinesSound
+pub mod Serving
+pub mod Phrases
 pub mod LinesPublic
 pub mod LineSteps
-pub mod LinesText
+pub mod BlocksComplete
+pub mod BlocksSound
+pub mod Keeping
+pub mod Awaiting
+pub mod AwaitingBlocks
+pub mod BlocksPublic

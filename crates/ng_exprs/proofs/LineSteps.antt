@@ -1,11 +1,13 @@
 -- Steps of the loops over statements.
 use Rattle.std.proofs.Common.{◌≡◌, ℕ, suc, List, [], ◌∷◌, ◌++◌, length, refl, sym, ap, append_assoc, arith}
+use Rattle.std.proofs.lemmas.List.{append-nil}
 use Rattle.std.specs.Prelude.{Ok, Err, true, false, ◌==◌}
 use Rattle.ng_tokens.specs.declared.kinds.Sign.TheVariants as s
 use Rattle.ng_ast.specs.declared.Stmt.{Stmt}
 use Rattle.ng_exprs.specs.Grammar.{Tokens}
 use Rattle.ng_exprs.specs.Parse.{Outcome, Parser, Stop, and_then, front, peek, rest, is_sign, expect}
 use Rattle.ng_exprs.specs.Lines.{list_of, simple, is_last, listener}
+use Rattle.ng_exprs.specs.Blocks.{is_over, statement, statements}
 
 front_cons : {A : Type 0} (found : List A) (a : A) (r : Outcome (List A)) → front found (and_then r (λ es ts. Ok (a ∷ es, ts))) ≡ front (found ++ a ∷ []) r
 front_cons found a (Ok p) = ap (λ l. Ok (l, p.1)) (sym (append_assoc found (a ∷ []) p.0))
@@ -45,3 +47,17 @@ module _ (n m c d : ℕ) where
       → front found (listener n m c d (suc i) ts) ≡ front (found ++ a ∷ []) (listener n m c d i vs)
   unfolding listener
   line_more found i ts a us vs p q r t = rw p (rw q (rw r (rw t (front_cons found a (listener n m c d i vs)))))
+
+module _ (n m c d : ℕ) (inner : Parser (List Stmt)) where
+  pub stmts_over : (found : List Stmt) (i : ℕ) (ts : Tokens) → is_over ts ≡ true → front found (statements n m c inner d (suc i) ts) ≡ Ok (found, ts)
+  unfolding statements
+  stmts_over found i ts p = rw p (ap (λ l. Ok (l, ts)) (append-nil found))
+
+  pub stmts_err : (found : List Stmt) (i : ℕ) (ts : Tokens) (x : Stop) → is_over ts ≡ false → statement n m c inner d ts ≡ Err x → front found (statements n m c inner d (suc i) ts) ≡ Err x
+  unfolding statements
+  stmts_err found i ts x p q = rw p (rw q refl)
+
+  pub stmts_more : (found : List Stmt) (i : ℕ) (ts : Tokens) (a : Stmt) (us : Tokens) → is_over ts ≡ false → statement n m c inner d ts ≡ Ok (a, us)
+      → front found (statements n m c inner d (suc i) ts) ≡ front (found ++ a ∷ []) (statements n m c inner d i us)
+  unfolding statements
+  stmts_more found i ts a us p q = rw p (rw q (front_cons found a (statements n m c inner d i us)))

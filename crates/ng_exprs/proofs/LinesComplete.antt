@@ -23,15 +23,15 @@ GetsL L x ts (Ok p) = p ≡ (x, ts)
 GetsL L x ts (Err Limit) = L
 GetsL L x ts (Err Syntax) = ⊥
 
-then_l : {A B : Type 0} (L : Type 0) (r : Outcome A) (f : A → Parser B) (x : A) (ts : Tokens) (y : B) (us : Tokens) → GetsL L x ts r → GetsL L y us (f x ts) → GetsL L y us (and_then r f)
+pub then_l : {A B : Type 0} (L : Type 0) (r : Outcome A) (f : A → Parser B) (x : A) (ts : Tokens) (y : B) (us : Tokens) → GetsL L x ts r → GetsL L y us (f x ts) → GetsL L y us (and_then r f)
 then_l L (Ok p) f x ts y us e h = subst (λ q. GetsL L y us (f q.0 q.1)) (sym e) h
 then_l L (Err Limit) f x ts y us e h = e
 then_l L (Err Syntax) f x ts y us e h = absurd e
 
 -- What serves the expressions of statements: d is what of the D brackets may still be opened where e are open, and c is above the count of tokens.
 pub record Serves (l : Bool) (L : Type 0) (n m c D : ℕ) : Type 0 where
-  pub expr : (d e : ℕ) → e + d ≡ D → (x : Tokens) (a : Expr) → IsExpr l e x a → (r : Tokens) → Ends 10 r → length (x ++ r) < c → GetsL L a r (measured n m c d (x ++ r))
-  pub room : (e : ℕ) → IsOpen l (suc e) → e + 0 ≡ D → L
+  pub expr : (d e : ℕ) → e + d ≡ D → (x : Tokens) (a : Expr) → IsExpr l e x a → (r : Tokens) → Ends 10 r → e + length (x ++ r) < c → GetsL L a r (measured n m c d (x ++ r))
+  pub room : (e : ℕ) → IsOpen l (suc e) → e + 0 ≡ D → e < c → L
 
 pub piped_of : (l : Bool) (e : ℕ) (x : Tokens) (a : Expr) → IsExpr l e x a → ReadsPiped x a
 piped_of false e x a h = h
@@ -64,7 +64,7 @@ unfolding same
 dot_is = (refl, refl, refl)
 
 module _ (l : Bool) (L : Type 0) (n m c D : ℕ) (serves : Serves l L n m c D) where
-  last_gets : (e d : ℕ) → e + d ≡ D → (x : Tokens) (a : Expr) → IsExpr l e x a → (q : Place) (r : Tokens) → length (x ++ sign s.CloseRound q ∷ r) < c → (j : ℕ) → length x ≤ j
+  last_gets : (e d : ℕ) → e + d ≡ D → (x : Tokens) (a : Expr) → IsExpr l e x a → (q : Place) (r : Tokens) → e + length (x ++ sign s.CloseRound q ∷ r) < c → (j : ℕ) → length x ≤ j
       → GetsL L (a ∷ []) (sign s.CloseRound q ∷ r) (list_of (measured n m c d) j (x ++ sign s.CloseRound q ∷ r))
   unfolding list_of
   last_gets e d eq x a h q r len zero few = absurd (omega (arith, some_tokens x a (piped_of l e x a h)))
@@ -72,7 +72,7 @@ module _ (l : Bool) (L : Type 0) (n m c D : ℕ) (serves : Serves l L n m c D) w
       let t : Tokens = sign s.CloseRound q ∷ r in
       then_l L (measured n m c d (x ++ t)) _ a t (a ∷ []) t (serves.expr d e eq x a h t (omega arith) len) (rw close_is.1 refl)
 
-  next_gets : (e d : ℕ) → e + d ≡ D → (x y : Tokens) (a : Expr) (es : List Expr) (p : Place) → IsExpr l e x a → (q : Place) (r : Tokens) → length (x ++ (sign s.Comma p ∷ (y ++ sign s.CloseRound q ∷ r))) < c
+  next_gets : (e d : ℕ) → e + d ≡ D → (x y : Tokens) (a : Expr) (es : List Expr) (p : Place) → IsExpr l e x a → (q : Place) (r : Tokens) → e + length (x ++ (sign s.Comma p ∷ (y ++ sign s.CloseRound q ∷ r))) < c
       → ((j : ℕ) → length y ≤ j → GetsL L es (sign s.CloseRound q ∷ r) (list_of (measured n m c d) j (y ++ sign s.CloseRound q ∷ r))) → (j : ℕ) → length x + suc (length y) ≤ j
       → GetsL L (a ∷ es) (sign s.CloseRound q ∷ r) (list_of (measured n m c d) j (x ++ (sign s.Comma p ∷ (y ++ sign s.CloseRound q ∷ r))))
   unfolding list_of
@@ -83,7 +83,7 @@ module _ (l : Bool) (L : Type 0) (n m c D : ℕ) (serves : Serves l L n m c D) w
       then_l L (measured n m c d (x ++ comma)) _ a comma (a ∷ es) t (serves.expr d e eq x a h comma (omega arith) len)
       (rw comma_is (then_l L (list_of (measured n m c d) j (y ++ t)) _ es t (a ∷ es) t (again j (omega arith)) refl))
 
-  list_gets : (e d : ℕ) {x : Tokens} {es : List Expr} → e + d ≡ D → ReadsSomeArgs l e x es → (q : Place) (r : Tokens) → length (x ++ sign s.CloseRound q ∷ r) < c → (j : ℕ) → length x ≤ j
+  list_gets : (e d : ℕ) {x : Tokens} {es : List Expr} → e + d ≡ D → ReadsSomeArgs l e x es → (q : Place) (r : Tokens) → e + length (x ++ sign s.CloseRound q ∷ r) < c → (j : ℕ) → length x ≤ j
       → GetsL L es (sign s.CloseRound q ∷ r) (list_of (measured n m c d) j (x ++ sign s.CloseRound q ∷ r))
   list_gets e d eq (ReadsSomeArgs.last_arg h) q r len j few = last_gets e d eq _ _ h q r len j few
   list_gets e d eq (ReadsSomeArgs.next_arg x y p h i) q r len j few =
@@ -111,24 +111,24 @@ module _ (l : Bool) (L : Type 0) (n m c D : ℕ) (serves : Serves l L n m c D) w
   no_args_gets zero room ts es r e = room
   no_args_gets (suc d) room ts es r e = absurd (omega (arith, e))
 
-  args_by : (e d : ℕ) {x : Tokens} {es : List Expr} → suc e + d ≡ D → ReadsArgs l (suc e) x es → (q : Place) (r : Tokens) → length (x ++ sign s.CloseRound q ∷ r) < c
+  args_by : (e d : ℕ) {x : Tokens} {es : List Expr} → suc e + d ≡ D → ReadsArgs l (suc e) x es → (q : Place) (r : Tokens) → suc e + length (x ++ sign s.CloseRound q ∷ r) < c
       → GetsL L es r (args n m c (suc d) (x ++ sign s.CloseRound q ∷ r))
   args_by e d eq ReadsArgs.no_arg q r len = nothing_gets d q r
   args_by e d {x = x} eq (ReadsArgs.some_args h) q r len = some_gets d x _ q r (opens_some h) (list_gets (suc e) d eq h q r len c (omega (arith, len, length-append x (sign s.CloseRound q ∷ r))))
 
-  args_gets : (e d : ℕ) → e + d ≡ D → (x : Tokens) (es : List Expr) → IsOpen l (suc e) → ReadsArgs l (suc e) x es → (q : Place) (r : Tokens) → length (x ++ sign s.CloseRound q ∷ r) < c
+  pub args_gets : (e d : ℕ) → e + d ≡ D → (x : Tokens) (es : List Expr) → IsOpen l (suc e) → ReadsArgs l (suc e) x es → (q : Place) (r : Tokens) → suc e + length (x ++ sign s.CloseRound q ∷ r) < c
       → GetsL L es r (args n m c d (x ++ sign s.CloseRound q ∷ r))
-  args_gets e zero eq x es room h q r len = no_args_gets 0 (serves.room e room eq) _ es r refl
+  args_gets e zero eq x es room h q r len = no_args_gets 0 (serves.room e room eq (omega arith)) _ es r refl
   args_gets e (suc d) eq x es room h q r len = args_by e d (omega arith) h q r len
 
   -- ---- statements
 
-  run_gets : (e d : ℕ) → e + d ≡ D → (p : Place) (v : List ℕ) (x : Tokens) (es : List Expr) → IsOpen l (suc e) → ReadsArgs l (suc e) x es → (q : Place) (r : Tokens) → length (x ++ sign s.CloseRound q ∷ r) < c
+  run_gets : (e d : ℕ) → e + d ≡ D → (p : Place) (v : List ℕ) (x : Tokens) (es : List Expr) → IsOpen l (suc e) → ReadsArgs l (suc e) x es → (q : Place) (r : Tokens) → suc e + length (x ++ sign s.CloseRound q ∷ r) < c
       → GetsL L (b.Do p v es) r (run n m c d p v (x ++ sign s.CloseRound q ∷ r))
   unfolding run
   run_gets e d eq p v x es room h q r len = then_l L (args n m c d (x ++ sign s.CloseRound q ∷ r)) _ es r (b.Do p v es) r (args_gets e d eq x es room h q r len) refl
 
-  send_gets : (e d : ℕ) → e + d ≡ D → (p : Place) (w : Owner) (v : List ℕ) (x : Tokens) (es : List Expr) → IsOpen l (suc e) → ReadsArgs l (suc e) x es → (p1 p2 q : Place) (r : Tokens) → length (x ++ sign s.CloseRound q ∷ r) < c
+  send_gets : (e d : ℕ) → e + d ≡ D → (p : Place) (w : Owner) (v : List ℕ) (x : Tokens) (es : List Expr) → IsOpen l (suc e) → ReadsArgs l (suc e) x es → (p1 p2 q : Place) (r : Tokens) → suc e + length (x ++ sign s.CloseRound q ∷ r) < c
       → GetsL L (b.Send p w v es) r (send n m c d p w (token (k.Name v) p1 ∷ (sign s.OpenRound p2 ∷ (x ++ sign s.CloseRound q ∷ r))))
   unfolding send
   send_gets e d eq p w v x es room h p1 p2 q r len = rw open_is (then_l L (args n m c d (x ++ sign s.CloseRound q ∷ r)) _ es r (b.Send p w v es) r (args_gets e d eq x es room h q r len) refl)
@@ -142,24 +142,24 @@ module _ (l : Bool) (L : Type 0) (n m c D : ℕ) (serves : Serves l L n m c D) w
   no_item_gets zero room p v ts y us e = room
   no_item_gets (suc d) room p v ts y us e = absurd (omega (arith, e))
 
-  item_by : (e d : ℕ) → suc e + d ≡ D → (p : Place) (v : List ℕ) (x : Tokens) (a : Expr) → IsExpr l (suc e) x a → (q t : Place) (ts : Tokens) → length (x ++ (sign s.CloseSquare q ∷ (sign s.Dot t ∷ ts))) < c
+  item_by : (e d : ℕ) → suc e + d ≡ D → (p : Place) (v : List ℕ) (x : Tokens) (a : Expr) → IsExpr l (suc e) x a → (q t : Place) (ts : Tokens) → suc e + length (x ++ (sign s.CloseSquare q ∷ (sign s.Dot t ∷ ts))) < c
       → (y : Stmt) (us : Tokens) → GetsL L y us (send n m c (suc d) p (o.Item p v a) ts) → GetsL L y us (item n m c (suc d) p v (x ++ (sign s.CloseSquare q ∷ (sign s.Dot t ∷ ts))))
   unfolding item
   item_by e d eq p v x a h q t ts len y us go =
       let close : Tokens = sign s.CloseSquare q ∷ (sign s.Dot t ∷ ts) in
       then_l L (measured n m c d (x ++ close)) _ a close y us (serves.expr d (suc e) eq x a h close (omega arith) len) (rw dot_is.1 (rw dot_is.0 go))
 
-  item_gets : (e d : ℕ) → e + d ≡ D → (p : Place) (v : List ℕ) (x : Tokens) (a : Expr) → IsOpen l (suc e) → IsExpr l (suc e) x a → (q t : Place) (ts : Tokens) → length (x ++ (sign s.CloseSquare q ∷ (sign s.Dot t ∷ ts))) < c
+  item_gets : (e d : ℕ) → e + d ≡ D → (p : Place) (v : List ℕ) (x : Tokens) (a : Expr) → IsOpen l (suc e) → IsExpr l (suc e) x a → (q t : Place) (ts : Tokens) → suc e + length (x ++ (sign s.CloseSquare q ∷ (sign s.Dot t ∷ ts))) < c
       → (y : Stmt) (us : Tokens) → GetsL L y us (send n m c d p (o.Item p v a) ts) → GetsL L y us (item n m c d p v (x ++ (sign s.CloseSquare q ∷ (sign s.Dot t ∷ ts))))
-  item_gets e zero eq p v x a room h q t ts len y us go = no_item_gets 0 (serves.room e room eq) p v _ y us refl
+  item_gets e zero eq p v x a room h q t ts len y us go = no_item_gets 0 (serves.room e room eq (omega arith)) p v _ y us refl
   item_gets e (suc d) eq p v x a room h q t ts len y us go = item_by e d (omega arith) p v x a h q t ts len y us go
 
-  set_gets : (e d : ℕ) → e + d ≡ D → (p : Place) (v : List ℕ) (x : Tokens) (a : Expr) → IsExpr l e x a → (r : Tokens) → Ends 10 r → length (x ++ r) < c → GetsL L (b.Set p v a) r (set n m c d p v (x ++ r))
+  set_gets : (e d : ℕ) → e + d ≡ D → (p : Place) (v : List ℕ) (x : Tokens) (a : Expr) → IsExpr l e x a → (r : Tokens) → Ends 10 r → e + length (x ++ r) < c → GetsL L (b.Set p v a) r (set n m c d p v (x ++ r))
   unfolding set
   set_gets e d eq p v x a h r end len = then_l L (measured n m c d (x ++ r)) _ a r (b.Set p v a) r (serves.expr d e eq x a h r end len) refl
 
   -- the owner of a call, and the call
-  owner_gets : (e d : ℕ) {x : Tokens} {w : Owner} → e + d ≡ D → ReadsOwner l e x w → (ts : Tokens) → length (x ++ ts) < c → (y : Stmt) (us : Tokens) → ((p : Place) → p ≡ start x → GetsL L y us (send n m c d p w ts))
+  owner_gets : (e d : ℕ) {x : Tokens} {w : Owner} → e + d ≡ D → ReadsOwner l e x w → (ts : Tokens) → e + length (x ++ ts) < c → (y : Stmt) (us : Tokens) → ((p : Place) → p ≡ start x → GetsL L y us (send n m c d p w ts))
       → GetsL L y us (simple n m c d (x ++ ts))
   unfolding simple
   owner_gets e d eq (ReadsOwner.named v p q) ts len y us go = go p refl
@@ -171,17 +171,17 @@ module _ (l : Bool) (L : Type 0) (n m c D : ℕ) (serves : Serves l L n m c D) w
 
   -- ---- a statement without its `;`
 
-  simple_run : (e d : ℕ) → e + d ≡ D → (v : List ℕ) (p : Place) (x : Tokens) (es : List Expr) → ReadsCall l e x es → (r : Tokens) → length (x ++ r) < c → GetsL L (b.Do p v es) r (simple n m c d (token (k.Name v) p ∷ (x ++ r)))
+  simple_run : (e d : ℕ) → e + d ≡ D → (v : List ℕ) (p : Place) (x : Tokens) (es : List Expr) → ReadsCall l e x es → (r : Tokens) → e + length (x ++ r) < c → GetsL L (b.Do p v es) r (simple n m c d (token (k.Name v) p ∷ (x ++ r)))
   unfolding simple
   simple_run e d eq v p x es (ReadsCall.call y p1 q room h) r len =
       subst (λ z. GetsL L (b.Do p v es) r (run n m c d p v z)) (sym (append_assoc y (sign s.CloseRound q ∷ []) r)) (
       run_gets e d eq p v y es room h q r (omega (arith, len, ap length (append_assoc y (sign s.CloseRound q ∷ []) r))))
 
-  simple_set : (e d : ℕ) → e + d ≡ D → (v : List ℕ) (p q : Place) (x : Tokens) (a : Expr) → IsExpr l e x a → (r : Tokens) → Ends 10 r → length (x ++ r) < c → GetsL L (b.Set p v a) r (simple n m c d (token (k.Name v) p ∷ (sign s.Assign q ∷ (x ++ r))))
+  simple_set : (e d : ℕ) → e + d ≡ D → (v : List ℕ) (p q : Place) (x : Tokens) (a : Expr) → IsExpr l e x a → (r : Tokens) → Ends 10 r → e + length (x ++ r) < c → GetsL L (b.Set p v a) r (simple n m c d (token (k.Name v) p ∷ (sign s.Assign q ∷ (x ++ r))))
   unfolding simple
   simple_set e d eq v p q x a h r end len = set_gets e d eq p v x a h r end len
 
-  simple_send : (e d : ℕ) → e + d ≡ D → (v : List ℕ) (x y : Tokens) (p : Place) (w : Owner) (es : List Expr) → ReadsOwner l e x w → ReadsCall l e y es → (r : Tokens) → length (x ++ (token (k.Name v) p ∷ (y ++ r))) < c
+  simple_send : (e d : ℕ) → e + d ≡ D → (v : List ℕ) (x y : Tokens) (p : Place) (w : Owner) (es : List Expr) → ReadsOwner l e x w → ReadsCall l e y es → (r : Tokens) → e + length (x ++ (token (k.Name v) p ∷ (y ++ r))) < c
       → GetsL L (b.Send (start x) w v es) r (simple n m c d (x ++ (token (k.Name v) p ∷ (y ++ r))))
   simple_send e d eq v x y p w es h (ReadsCall.call z p1 q room i) r len =
       let inner : Tokens = z ++ sign s.CloseRound q ∷ r in
@@ -190,7 +190,7 @@ module _ (l : Bool) (L : Type 0) (n m c D : ℕ) (serves : Serves l L n m c D) w
       subst (λ p3. GetsL L (b.Send p3 w v es) r (send n m c d p2 w (token (k.Name v) p ∷ (sign s.OpenRound p1 ∷ inner)))) same (
       send_gets e d eq p2 w v z es room i p p1 q r (omega (arith, len, ap length all, length-append x (token (k.Name v) p ∷ (sign s.OpenRound p1 ∷ ((z ++ sign s.CloseRound q ∷ []) ++ r))))))))
 
-  simple_gets : (e d : ℕ) {x : Tokens} {a : Stmt} → e + d ≡ D → ReadsSimple l e x a → (r : Tokens) → Ends 10 r → length (x ++ r) < c → GetsL L a r (simple n m c d (x ++ r))
+  pub simple_gets : (e d : ℕ) {x : Tokens} {a : Stmt} → e + d ≡ D → ReadsSimple l e x a → (r : Tokens) → Ends 10 r → e + length (x ++ r) < c → GetsL L a r (simple n m c d (x ++ r))
   simple_gets e d eq (ReadsSimple.set v x p q h) r end len = simple_set e d eq v p q x _ h r end (omega (arith, len))
   simple_gets e d eq (ReadsSimple.run v x p h) r end len = simple_run e d eq v p x _ h r (omega (arith, len))
   simple_gets e d eq (ReadsSimple.send v x y p h i) r end len =
@@ -203,14 +203,14 @@ module _ (l : Bool) (L : Type 0) (n m c D : ℕ) (serves : Serves l L n m c D) w
   unfolding listener
   last_gets_simple d eq x a h len zero some = absurd (omega arith)
   last_gets_simple d eq x a h len (suc i) some =
-      then_l L (simple n m c d x) _ a [] (a ∷ []) [] (subst (λ z. GetsL L a [] (simple n m c d z)) (append-nil x) (simple_gets 0 d eq h [] (omega arith) (rw append-nil len))) refl
+      then_l L (simple n m c d x) _ a [] (a ∷ []) [] (subst (λ z. GetsL L a [] (simple n m c d z)) (append-nil x) (simple_gets 0 d eq h [] (omega arith) (rw append-nil (omega arith)))) refl
 
   ended_gets : (d : ℕ) → 0 + d ≡ D → (x : Tokens) (a : Stmt) (p : Place) → ReadsSimple l 0 x a → length (x ++ sign s.Semicolon p ∷ []) < c → (i : ℕ) → 0 < i → GetsL L (a ∷ []) [] (listener n m c d i (x ++ sign s.Semicolon p ∷ []))
   unfolding listener
   ended_gets d eq x a p h len zero some = absurd (omega arith)
   ended_gets d eq x a p h len (suc i) some =
       let t : Tokens = sign s.Semicolon p ∷ [] in
-      then_l L (simple n m c d (x ++ t)) _ a t (a ∷ []) [] (simple_gets 0 d eq h t (omega arith) len) (rw dot_is.2 refl)
+      then_l L (simple n m c d (x ++ t)) _ a t (a ∷ []) [] (simple_gets 0 d eq h t (omega arith) (omega arith)) (rw dot_is.2 refl)
 
   more_gets_simple : (d : ℕ) → 0 + d ≡ D → (x y : Tokens) (a : Stmt) (others : List Stmt) (p : Place) → ReadsSimple l 0 x a → length (x ++ sign s.Semicolon p ∷ y) < c → is_last y ≡ false
       → ((i : ℕ) → length y ≤ i → GetsL L others [] (listener n m c d i y)) → (i : ℕ) → length x + suc (length y) ≤ i → GetsL L (a ∷ others) [] (listener n m c d i (x ++ sign s.Semicolon p ∷ y))
@@ -218,7 +218,7 @@ module _ (l : Bool) (L : Type 0) (n m c D : ℕ) (serves : Serves l L n m c D) w
   more_gets_simple d eq x y a others p h len on again zero few = absurd (omega arith)
   more_gets_simple d eq x y a others p h len on again (suc i) few =
       let t : Tokens = sign s.Semicolon p ∷ y in
-      then_l L (simple n m c d (x ++ t)) _ a t (a ∷ others) [] (simple_gets 0 d eq h t (omega arith) len)
+      then_l L (simple n m c d (x ++ t)) _ a t (a ∷ others) [] (simple_gets 0 d eq h t (omega arith) (omega arith))
       (rw dot_is.2 (rw on (then_l L (listener n m c d i y) _ others [] (a ∷ others) [] (again i (omega arith)) refl)))
 
   first_owner : {e : ℕ} {x : Tokens} {w : Owner} → ReadsOwner l e x w → (t : Token) × (z : Tokens) × (x ≡ t ∷ z)

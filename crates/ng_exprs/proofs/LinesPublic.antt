@@ -1,116 +1,61 @@
 -- The laws of listeners at a whole list of tokens.
-use Rattle.std.proofs.Common.{◌≡◌, ℕ, suc, ◌+◌, ◌-◌, ◌<◌, ◌≤◌, List, [], ◌∷◌, ◌++◌, length, refl, sym, ◌∙◌, ap, subst, append_assoc, arith, length-append, inl, inr}
-use Rattle.std.specs.Prelude.{Bool, true, false, cond, Ok, Err, nat_lt, ◌⊎◌}
-use Rattle.ng_ast.specs.declared.Expr.{Expr}
+use Rattle.std.proofs.Common.{◌≡◌, ℕ, suc, ◌<◌, List, [], ◌++◌, length, ap, subst, arith}
+use Rattle.std.proofs.lemmas.List.{append-nil}
+use Rattle.std.specs.Prelude.{true, false, Ok, Err}
 use Rattle.ng_ast.specs.declared.Stmt.{Stmt}
-use Rattle.ng_tokens.specs.declared.kinds.Token.{Token}
-use Rattle.ng_exprs.specs.Grammar.{Tokens, ReadsPiped}
-use Rattle.ng_exprs.specs.Limits.{opens, Within}
-use Rattle.ng_exprs.specs.Parse.{Syntax, Limit, Outcome, peek, whole, turns}
+use Rattle.ng_exprs.specs.declared.halt.Halt.{Halt}
+use Rattle.ng_exprs.specs.declared.halt.Halt.TheVariants as h
+use Rattle.ng_exprs.specs.Gives.{Fails}
+use Rattle.ng_exprs.specs.Grammar.{Tokens}
+use Rattle.ng_exprs.specs.Limits.{Within}
+use Rattle.ng_exprs.specs.Parse.{Syntax, Limit, turns}
 use Rattle.ng_exprs.specs.Statements.{ReadsListener, EndsLong, OverIn}
-use Rattle.ng_exprs.specs.Lines.{measured, listener}
-use Rattle.ng_exprs.proofs.Complete.{Gets, Ends, extends_at, complete_before}
-use Rattle.ng_exprs.proofs.Sound.{Stuck, Is, Inside, sound}
-use Rattle.ng_exprs.proofs.Public.{within_opens, no_longer}
-use Rattle.ng_exprs.proofs.LinesComplete.{GetsL, Serves, listener_gets}
-use Rattle.ng_exprs.proofs.LinesSound.{Halted, Listens, listener_sound}
+use Rattle.ng_exprs.specs.Awaits.{AwaitsListener}
+use Rattle.ng_exprs.specs.Lines.{listener, most}
+use Rattle.ng_exprs.specs.Listening.{AnswersListener}
+use Rattle.ng_exprs.proofs.Outcomes.{Is}
+use Rattle.ng_exprs.proofs.Keeping.{keeps_listener}
+use Rattle.ng_exprs.proofs.Awaiting.{listener_not_long}
+use Rattle.ng_exprs.proofs.Serving.{serves_any, serves_exactly, serves_freely}
+use Rattle.ng_exprs.proofs.Phrases.{exact_by, one_by, over_by, not_over_by, within_not}
+use Rattle.ng_exprs.proofs.LinesComplete.{GetsL, listener_gets}
+use Rattle.ng_exprs.proofs.LinesSound.{Halted, Listens, listener_sound, unlimited_listener}
 
--- ---- without limits: a limit may be the answer
+pub listener_ok : (ts : Tokens) (bs : List Stmt) (us : Tokens) → listener turns 256 most 32 most ts ≡ Ok (bs, us) → AnswersListener ts (Ok bs)
+listener_ok ts bs us e = (subst (Is (Listens ts) (Halted (ReadsListener false) AwaitsListener 33 ts)) e (listener_sound most most ts)).1
 
-any_measured : (c d : ℕ) (x : Tokens) (a : Expr) (r : Tokens) (o : Outcome Expr) → whole turns (suc d) (x ++ r) ≡ o → Gets a r o → GetsL (Unit {0}) a r (measured turns 256 c d (x ++ r))
-unfolding measured
-any_measured c d x a r (Ok p) e g = rw e (either (nat_lt 256 (length (x ++ r) - length p.1)))
-  where
-    either : (v : Bool) → GetsL (Unit {0}) a r (cond {A = Outcome Expr} v (Err Limit) (Ok (p.0, p.1)))
-    either true = tt
-    either false = g
-any_measured c d x a r (Err Limit) e g = rw e tt
-any_measured c d x a r (Err Syntax) e g = absurd g
+silent : (c : ℕ) (ts : Tokens) → length ts < c → listener turns 256 c 32 c ts ≡ Err Syntax → (bs : List Stmt) → ReadsListener false ts bs → ⊥
+silent c ts len e bs i = subst (GetsL (Unit {0}) bs []) e (listener_gets false (Unit {0}) turns 256 c 32 (serves_any c) 32 (omega arith) i len c (omega arith))
 
-pub serves_any : (c : ℕ) → Serves false (Unit {0}) turns 256 c 32
-serves_any c = record {
-  expr = λ d e eq x a h r end len. any_measured c d x a r (whole turns (suc d) (x ++ r)) refl (complete_before h turns (suc d) r end);
-  room = λ e open_ eq. tt;
-}
+over : (c : ℕ) (ts : Tokens) → listener turns 256 c 32 c ts ≡ Err Limit → OverIn (ReadsListener false) AwaitsListener ts
+over c ts e = over_by (ReadsListener false) AwaitsListener ts (subst (Is (Listens ts) (Halted (ReadsListener false) AwaitsListener 33 ts)) e (listener_sound c c ts))
 
--- ---- within the limits: no limit is met
+within : (c : ℕ) (ts : Tokens) → length ts < c → listener turns 256 c 32 c ts ≡ Err Limit → (bs : List Stmt) → ReadsListener true ts bs → ⊥
+within c ts len e bs i = within_not bs (listener turns 256 c 32 c ts) e (listener_gets true ⊥ turns 256 c 32 (serves_exactly c) 32 (omega arith) i len c (omega arith))
 
--- two cuts of one list
-abbrev Cuts : Tokens → Tokens → Tokens → Type 0
-Cuts text x r = ((y : Tokens) × (x ≡ text ++ y)) ⊎ ((t : Token) × (w : Tokens) × (text ≡ x ++ t ∷ w) × ((z : Tokens) → peek (t ∷ z) ≡ peek r))
+pub listener_err : (ts : Tokens) (e : Halt) → length ts < 1048577 → Fails (listener turns 256 most 32 most ts) e → AnswersListener ts (Err e)
+unfolding most
+listener_err ts (h.Syntax p) len f = silent most ts len f
+listener_err ts (h.Limit p) len f = (over most ts f, within most ts len f)
+listener_err ts h.Memory len f = tt
 
-cut_more : (t : Token) (text x r : Tokens) → Cuts text x r → Cuts (t ∷ text) (t ∷ x) r
-cut_more t text x r (inl h) = inl (h.0, ap (λ z. t ∷ z) h.1)
-cut_more t text x r (inr h) = inr (h.0, h.1, ap (λ z. t ∷ z) h.2, h.3)
-
-cuts : (text tail x r : Tokens) → x ++ r ≡ text ++ tail → Cuts text x r
-cuts [] tail x r e = inl (x, refl)
-cuts (t ∷ text) tail [] r e = inr (t, text, refl, λ z. ap (λ ts. peek ts) (sym e))
-cuts (t ∷ text) tail (u ∷ x) r e =
-    let hd : u ≡ t = cc in
-    let tl : x ++ r ≡ text ++ tail = cc in
-    subst (λ v. Cuts (v ∷ text) (u ∷ x) r) hd (cut_more u text x r (cuts text tail x r tl))
-
-no_stuck : (d e : ℕ) → e + d ≡ 32 → (x : Tokens) (a : Expr) → ReadsPiped x a → length x ≤ 256 → Within 32 e x → (r : Tokens) → Ends 10 r → Stuck ReadsPiped (suc d) turns (x ++ r) → ⊥
-unfolding turns
-no_stuck d e eq x a h few within r end st = by (cuts st.text st.tail x r st.all) st.passes
-  where
-    by : Cuts st.text x r → ((m : ℕ) → m + suc d ≤ opens m st.text) ⊎ (257 ≤ length st.text) → ⊥
-    by (inl (y, same)) (inl deep) = absurd (omega (arith, deep e, within_opens 32 e st.text (omega arith) y (subst (λ z. Within 32 e z) same within)))
-    by (inl (y, same)) (inr long) = absurd (omega (arith, ap length same, length-append st.text y))
-    by (inr (t, w, same, next)) p = no_longer x a h t (w ++ st.more) (subst (λ o. 10 < extends_at o) (sym (next (w ++ st.more))) end) st.value
-        (subst (λ z. ReadsPiped z st.value) (ap (λ z. z ++ st.more) same ∙ append_assoc x (t ∷ w) st.more) st.reads)
-
-few_left : (x r : Tokens) → length x ≤ 256 → nat_lt 256 (length (x ++ r) - length r) ≡ false
-few_left x r few = let e : length (x ++ r) - length r ≡ length x = omega (arith, length-append x r) in rw e (at_most (length x) few)
-  where
-    at_most : (n : ℕ) → n ≤ 256 → nat_lt 256 n ≡ false
-    at_most n h = grind arith
-
-exact_measured : (c d : ℕ) (x : Tokens) (a : Expr) (r : Tokens) (o : Outcome Expr) → whole turns (suc d) (x ++ r) ≡ o → Gets a r o → Is (Inside (suc d) (x ++ r)) (Stuck ReadsPiped (suc d) turns (x ++ r)) o
-    → (Stuck ReadsPiped (suc d) turns (x ++ r) → ⊥) → length x ≤ 256 → GetsL ⊥ a r (measured turns 256 c d (x ++ r))
-unfolding measured
-exact_measured c d x a r (Ok p) e g s none few = rw e (subst (λ q. GetsL ⊥ a r (cond {A = Outcome Expr} (nat_lt 256 (length (x ++ r) - length q.1)) (Err Limit) (Ok (q.0, q.1)))) (sym g) (rw (few_left x r few) refl))
-exact_measured c d x a r (Err Limit) e g s none few = absurd (none s)
-exact_measured c d x a r (Err Syntax) e g s none few = absurd g
-
-pub serves_exactly : (c : ℕ) → Serves true ⊥ turns 256 c 32
-serves_exactly c = record {
-  expr = λ d e eq x a h r end len. exact_measured c d x a r (whole turns (suc d) (x ++ r)) refl (complete_before h.0 turns (suc d) r end) (sound turns (suc d) (x ++ r))
-      (no_stuck d e eq x a h.0 h.1 h.2 r end) h.1;
-  room = λ e few eq. absurd (omega arith);
-}
-
--- ---- what the reader of tokens owes
-
-pub listens : (c : ℕ) (ts : Tokens) (bs : List Stmt) (us : Tokens) → listener turns 256 c 32 c ts ≡ Ok (bs, us) → ReadsListener true ts bs
-listens c ts bs us e = (subst (Is (Listens ts) (Halted (ReadsListener false) 33 ts)) e (listener_sound c c ts)).1
-
-pub silent : (c : ℕ) (ts : Tokens) → length ts < c → listener turns 256 c 32 c ts ≡ Err Syntax → (bs : List Stmt) → ReadsListener false ts bs → ⊥
-silent c ts len e bs h = subst (GetsL (Unit {0}) bs []) e (listener_gets false (Unit {0}) turns 256 c 32 (serves_any c) 32 (omega arith) h len c (omega arith))
-
-pub over_listener : (c : ℕ) (ts : Tokens) → listener turns 256 c 32 c ts ≡ Err Limit → OverIn (ReadsListener false) ts
-over_listener c ts e =
-    let st : Halted (ReadsListener false) 33 ts = subst (Is (Listens ts) (Halted (ReadsListener false) 33 ts)) e (listener_sound c c ts) in
-    (st.text, st.tail, st.all, (st.more, st.value, st.reads), by st.text st.passes)
-  where
-    by : (x : Tokens) → ((m : ℕ) → m + 33 ≤ opens m x) ⊎ EndsLong (ReadsListener false) x → (32 < opens 0 x) ⊎ EndsLong (ReadsListener false) x
-    by x (inl h) = inl (omega (arith, h 0))
-    by x (inr h) = inr h
-
-pub exactly : (c : ℕ) (ts : Tokens) (bs : List Stmt) → length ts < c → ReadsListener true ts bs → listener turns 256 c 32 c ts ≡ Ok (bs, [])
-exactly c ts bs len h = by (listener turns 256 c 32 c ts) refl (listener_gets true ⊥ turns 256 c 32 (serves_exactly c) 32 (omega arith) h len c (omega arith))
-  where
-    by : (o : Outcome (List Stmt)) → listener turns 256 c 32 c ts ≡ o → GetsL ⊥ bs [] o → listener turns 256 c 32 c ts ≡ Ok (bs, [])
-    by (Ok p) e g = e ∙ ap Ok g
-    by (Err Limit) e g = absurd g
-    by (Err Syntax) e g = absurd g
-
--- a list of tokens that is a listener within the limits is no other
-pub one_listener : (ts : Tokens) (a d : List Stmt) → ReadsListener true ts a → ReadsListener false ts d → a ≡ d
-one_listener ts a d h i =
+-- tokens are one listener at most
+pub listener_one : (ts : Tokens) (a b : List Stmt) → ReadsListener false ts a → ReadsListener false ts b → a ≡ b
+listener_one ts a b i j =
     let c : ℕ = suc (length ts) in
-    by (exactly c ts a (omega arith) h) (listener_gets false (Unit {0}) turns 256 c 32 (serves_any c) 32 (omega arith) i (omega arith) c (omega arith))
+    one_by a b (listener c c c c c ts) (gets a i) (gets b j)
   where
-    by : listener turns 256 (suc (length ts)) 32 (suc (length ts)) ts ≡ Ok (a, []) → GetsL (Unit {0}) d [] (listener turns 256 (suc (length ts)) 32 (suc (length ts)) ts) → a ≡ d
-    by e g = ap (λ q. q.0) (subst (GetsL (Unit {0}) d []) e g)
+    gets : (x : List Stmt) → ReadsListener false ts x → GetsL ⊥ x [] (listener (suc (length ts)) (suc (length ts)) (suc (length ts)) (suc (length ts)) (suc (length ts)) ts)
+    gets x i = let c : ℕ = suc (length ts) in listener_gets false ⊥ c c c c (serves_freely c) c (omega arith) i (omega arith) c (omega arith)
+
+pub unlimited_lines : (ts : Tokens) (bs : List Stmt) → ReadsListener true ts bs → ReadsListener false ts bs
+unlimited_lines ts bs i = unlimited_listener i
+
+-- a listener within the limits is over none
+pub lines_inside : (ts : Tokens) (bs : List Stmt) → ReadsListener true ts bs → OverIn (ReadsListener false) AwaitsListener ts → ⊥
+lines_inside ts bs i = not_over_by (ReadsListener false) AwaitsListener ts (subst (Within 32 0) (append-nil ts) (keeps_listener i [] tt)) (short (suc (length ts)) (omega arith))
+  where
+    short : (c : ℕ) → length ts < c → (front tail : Tokens) → ts ≡ front ++ tail → EndsLong AwaitsListener front → ⊥
+    short c len front tail all =
+        let found : listener turns 256 c 32 c ts ≡ Ok (bs, []) = exact_by bs (listener turns 256 c 32 c ts) (listener_gets true ⊥ turns 256 c 32 (serves_exactly c) 32 (omega arith) i len c (omega arith)) in
+        listener_not_long c front tail (bs, []) (omega (arith, len, ap length all)) (subst (λ z. listener turns 256 c 32 c z ≡ Ok (bs, [])) all found)

@@ -14,9 +14,11 @@ use Rattle.ng_tokens.specs.declared.kinds.Kind.TheVariants as k
 use Rattle.ng_exprs.specs.Grammar.{Tokens, token, sign, start, origin, ReadsPiped}
 use Rattle.ng_exprs.specs.Limits.{opens, Within}
 use Rattle.ng_exprs.specs.Parse.{Limit, Outcome, sign_of, peek, rest, is_sign, expect, name, turns, whole}
-use Rattle.ng_exprs.specs.Statements.{IsExpr, IsOpen, ReadsSomeArgs, ReadsArgs, ReadsCall, ReadsOwner, ReadsSimple, ReadsListener, Begins, EndsLong}
+use Rattle.ng_exprs.specs.Statements.{IsExpr, IsOpen, ReadsSomeArgs, ReadsArgs, ReadsCall, ReadsOwner, ReadsSimple, ReadsListener, EndsLong}
+use Rattle.ng_exprs.specs.Awaits.{AwaitsArg, AwaitsSimple, AwaitsListener}
 use Rattle.ng_exprs.specs.Lines.{list_of, measured, args, set, run, send, apart, item, after_name, go_on, simple, is_last, listener}
-use Rattle.ng_exprs.proofs.Sound.{Took, Stuck, Is, Inside, explain, case_if, seen, expect_is, name_is, zero_tokens, zero_piped, sound}
+use Rattle.ng_exprs.proofs.Outcomes.{Took, Stuck, Is, Inside, explain, case_if, seen, expect_is, name_is, zero_tokens, zero_piped}
+use Rattle.ng_exprs.proofs.Sound.{sound}
 
 -- some tokens were read, and each of their brackets is closed
 pub record Read {A : Type 0} (R : Tokens → A → Type 0) (ts : Tokens) (a : A) (us : Tokens) : Type 0 where
@@ -26,42 +28,43 @@ pub record Read {A : Type 0} (R : Tokens → A → Type 0) (ts : Tokens) (a : A)
   pub even : (m : ℕ) (r : Tokens) → opens m (text ++ r) ≡ opens m r
 
 -- a front is begun, and passes a limit: d more brackets are open after it, or an expression is too long
-pub record Halted {A : Type 0} (R : Tokens → A → Type 0) (d : ℕ) (ts : Tokens) : Type 0 where
+pub record Halted {A : Type 0} (R : Tokens → A → Type 0) (W : Tokens → Type 0) (d : ℕ) (ts : Tokens) : Type 0 where
   pub text : Tokens
   pub tail : Tokens
   pub more : Tokens
   pub value : A
   pub all : ts ≡ text ++ tail
   pub reads : R (text ++ more) value
-  pub passes : ((m : ℕ) → m + d ≤ opens m text) ⊎ EndsLong R text
+  pub passes : ((m : ℕ) → m + d ≤ opens m text) ⊎ EndsLong W text
 
-long_in : {A B : Type 0} (R : Tokens → A → Type 0) (R' : Tokens → B → Type 0) (p c : Tokens) (f : A → B) → ((x : Tokens) (a : A) → R x a → R' (p ++ (x ++ c)) (f a)) → (text : Tokens) → EndsLong R text → EndsLong R' (p ++ text)
-long_in R R' p c f wrap text (before, x, eq, long, begins, awaits) = (
-  p ++ before,
-  x,
-  ap (λ z. p ++ z) eq ∙ sym (append_assoc p before x),
-  long,
-  begins,
-  λ y a h. let q = awaits y a h in (q.0 ++ c, f q.1, subst (λ z. R' z (f q.1)) (simp append_assoc) (wrap ((before ++ y) ++ q.0) q.1 q.2)),
-)
+long_in : (W W' : Tokens → Type 0) (p : Tokens) → ((y : Tokens) → W y → W' (p ++ y)) → (text : Tokens) → EndsLong W text → EndsLong W' (p ++ text)
+long_in W W' p awaits text (before, x, eq, here, long, begins) = (p ++ before, x, ap (λ z. p ++ z) eq ∙ sym (append_assoc p before x), awaits before here, long, begins)
 
-passes_in : {A B : Type 0} (R : Tokens → A → Type 0) (R' : Tokens → B → Type 0) (p c : Tokens) (f : A → B) → ((x : Tokens) (a : A) → R x a → R' (p ++ (x ++ c)) (f a)) → (k : ℕ → ℕ) → ((m : ℕ) (r : Tokens) → opens m (p ++ r) ≡ opens (k m) r)
-    → (d d' : ℕ) → ((m : ℕ) → m + d' ≤ k m + d) → (text : Tokens) → ((m : ℕ) → m + d ≤ opens m text) ⊎ EndsLong R text → ((m : ℕ) → m + d' ≤ opens m (p ++ text)) ⊎ EndsLong R' (p ++ text)
-passes_in R R' p c f wrap k counts d d' room text (inl h) = inl (λ m. rw (counts m text) (omega (arith, h (k m), room m)))
-passes_in R R' p c f wrap k counts d d' room text (inr h) = inr (long_in R R' p c f wrap text h)
+passes_in : (W W' : Tokens → Type 0) (p : Tokens) → ((y : Tokens) → W y → W' (p ++ y)) → (k : ℕ → ℕ) → ((m : ℕ) (r : Tokens) → opens m (p ++ r) ≡ opens (k m) r)
+    → (d d' : ℕ) → ((m : ℕ) → m + d' ≤ k m + d) → (text : Tokens) → ((m : ℕ) → m + d ≤ opens m text) ⊎ EndsLong W text → ((m : ℕ) → m + d' ≤ opens m (p ++ text)) ⊎ EndsLong W' (p ++ text)
+passes_in W W' p awaits k counts d d' room text (inl h) = inl (λ m. rw (counts m text) (omega (arith, h (k m), room m)))
+passes_in W W' p awaits k counts d d' room text (inr h) = inr (long_in W W' p awaits text h)
 
 -- A limit in a part is one in the whole: p stands before the part, c makes the whole complete, and k counts the brackets of p.
-halted_in : {A B : Type 0} (R : Tokens → A → Type 0) (R' : Tokens → B → Type 0) (p c : Tokens) (f : A → B) → ((x : Tokens) (a : A) → R x a → R' (p ++ (x ++ c)) (f a)) → (k : ℕ → ℕ) → ((m : ℕ) (r : Tokens) → opens m (p ++ r) ≡ opens (k m) r)
-    → (d d' : ℕ) → ((m : ℕ) → m + d' ≤ k m + d) → (ts us : Tokens) → us ≡ p ++ ts → Halted R d ts → Halted R' d' us
-halted_in R R' p c f wrap k counts d d' room ts us eq h = record {
+pub halted_in : {A B : Type 0} (R : Tokens → A → Type 0) (W : Tokens → Type 0) (R' : Tokens → B → Type 0) (W' : Tokens → Type 0) (p c : Tokens) (f : A → B) → ((x : Tokens) (a : A) → R x a → R' (p ++ (x ++ c)) (f a))
+    → ((y : Tokens) → W y → W' (p ++ y)) → (k : ℕ → ℕ) → ((m : ℕ) (r : Tokens) → opens m (p ++ r) ≡ opens (k m) r)
+    → (d d' : ℕ) → ((m : ℕ) → m + d' ≤ k m + d) → (ts us : Tokens) → us ≡ p ++ ts → Halted R W d ts → Halted R' W' d' us
+halted_in R W R' W' p c f wrap awaits k counts d d' room ts us eq h = record {
   text = p ++ h.text;
   tail = h.tail;
   more = h.more ++ c;
   value = f h.value;
   all = eq ∙ ap (λ x. p ++ x) h.all ∙ sym (append_assoc p h.text h.tail);
   reads = subst (λ x. R' x (f h.value)) (simp append_assoc) (wrap (h.text ++ h.more) h.value h.reads);
-  passes = passes_in R R' p c f wrap k counts d d' room h.text h.passes;
+  passes = passes_in W W' p awaits k counts d d' room h.text h.passes;
 }
+
+-- at the start of an expression
+abbrev pub AtStart : Tokens → Type 0
+AtStart y = y ≡ []
+
+at_start : (W : Tokens → Type 0) (p : Tokens) → W p → (y : Tokens) → AtStart y → W (p ++ y)
+at_start W p w y e = subst (λ z. W (p ++ z)) (sym e) (subst W (sym (append-nil p)) w)
 
 -- ---- expressions
 
@@ -74,22 +77,19 @@ over_256 n e = grind arith
 within_256 : (n : ℕ) → nat_lt 256 n ≡ false → n ≤ 256
 within_256 n e = grind arith
 
-begins_any : (y : Tokens) (a : Expr) → ReadsPiped y a → Begins ReadsPiped ([] ++ y)
-begins_any y a h = ([], a, subst (λ z. ReadsPiped z a) (sym (append-nil y)) h)
+long_alone : (x more : Tokens) (a : Expr) → ReadsPiped (x ++ more) a → 256 < length x → EndsLong AtStart x
+long_alone x more a h long = ([], x, refl, refl, long, (more, a, h))
 
-long_alone : (x more : Tokens) (a : Expr) → ReadsPiped (x ++ more) a → 256 < length x → EndsLong ReadsPiped x
-long_alone x more a h long = ([], x, refl, long, (more, a, h), begins_any)
-
-stuck_halted : (d : ℕ) (ts : Tokens) → Stuck ReadsPiped (suc d) turns ts → Halted ReadsPiped (suc d) ts
+stuck_halted : (d : ℕ) (ts : Tokens) → Stuck ReadsPiped (suc d) turns ts → Halted ReadsPiped AtStart (suc d) ts
 unfolding turns
 stuck_halted d ts st = record { text = st.text; tail = st.tail; more = st.more; value = st.value; all = st.all; reads = st.reads; passes = by st.passes }
   where
-    by : ((m : ℕ) → m + suc d ≤ opens m st.text) ⊎ (257 ≤ length st.text) → ((m : ℕ) → m + suc d ≤ opens m st.text) ⊎ EndsLong ReadsPiped st.text
+    by : ((m : ℕ) → m + suc d ≤ opens m st.text) ⊎ (257 ≤ length st.text) → ((m : ℕ) → m + suc d ≤ opens m st.text) ⊎ EndsLong AtStart st.text
     by (inl h) = inl h
     by (inr h) = inr (long_alone st.text st.more st.value st.reads (omega arith))
 
 measured_if : (e d : ℕ) → e + d ≡ 32 → (ts : Tokens) (a : Expr) (us : Tokens) → Took ReadsPiped d ts a us → (v : Bool) → nat_lt 256 (length ts - length us) ≡ v
-    → Is (Read (IsExpr true e) ts) (Halted ReadsPiped (suc d) ts) (cond {A = Outcome Expr} v (Err Limit) (Ok (a, us)))
+    → Is (Read (IsExpr true e) ts) (Halted ReadsPiped AtStart (suc d) ts) (cond {A = Outcome Expr} v (Err Limit) (Ok (a, us)))
 measured_if e d eq ts a us t true w = record {
   text = t.text;
   tail = us;
@@ -106,10 +106,10 @@ measured_if e d eq ts a us t false w = record {
   even = t.calm.even;
 }
 
-measured_sound : (c e d : ℕ) → e + d ≡ 32 → (ts : Tokens) → Is (Read (IsExpr true e) ts) (Halted ReadsPiped (suc d) ts) (measured turns 256 c d ts)
+pub measured_sound : (c e d : ℕ) → e + d ≡ 32 → (ts : Tokens) → Is (Read (IsExpr true e) ts) (Halted ReadsPiped AtStart (suc d) ts) (measured turns 256 c d ts)
 unfolding measured
 measured_sound c e d eq ts =
-    explain (Inside (suc d) ts) (Stuck ReadsPiped (suc d) turns ts) (Read (IsExpr true e) ts) (Halted ReadsPiped (suc d) ts) (whole turns (suc d) ts) _ (sound turns (suc d) ts)
+    explain (Inside (suc d) ts) (Stuck ReadsPiped (suc d) turns ts) (Read (IsExpr true e) ts) (Halted ReadsPiped AtStart (suc d) ts) (whole turns (suc d) ts) _ (sound turns (suc d) ts)
     (λ a us t. measured_if e d eq ts a us (subst (λ z. Took ReadsPiped z ts a us) (same t.0 t.1) t.2) (nat_lt 256 (length ts - length us)) refl)
     (stuck_halted d ts)
   where
@@ -118,56 +118,56 @@ measured_sound c e d eq ts =
 
 -- ---- arguments
 
-no_tail : {A : Type 0} (R : Tokens → A → Type 0) (p x : Tokens) (a : A) → R (p ++ x) a → R (p ++ (x ++ [])) a
+pub no_tail : {A : Type 0} (R : Tokens → A → Type 0) (p x : Tokens) (a : A) → R (p ++ x) a → R (p ++ (x ++ [])) a
 no_tail R p x a h = subst (λ z. R (p ++ z) a) (sym (append-nil x)) h
 
-list_sound : (c e d : ℕ) → e + d ≡ 32 → (j : ℕ) (ts : Tokens) → Is (Read (ReadsSomeArgs true e) ts) (Halted (ReadsSomeArgs false e) (suc d) ts) (list_of (measured turns 256 c d) j ts)
+list_sound : (c e d : ℕ) → e + d ≡ 32 → (j : ℕ) (ts : Tokens) → Is (Read (ReadsSomeArgs true e) ts) (Halted (ReadsSomeArgs false e) AwaitsArg (suc d) ts) (list_of (measured turns 256 c d) j ts)
 unfolding list_of
 list_sound c e d eq zero ts = tt
 list_sound c e d eq (suc j) ts =
     let T : List Expr → Tokens → Type 0 = Read (ReadsSomeArgs true e) ts in
-    let Q : Type 0 = Halted (ReadsSomeArgs false e) (suc d) ts in
-    explain (Read (IsExpr true e) ts) (Halted ReadsPiped (suc d) ts) T Q (measured turns 256 c d ts) _ (measured_sound c e d eq ts)
+    let Q : Type 0 = Halted (ReadsSomeArgs false e) AwaitsArg (suc d) ts in
+    explain (Read (IsExpr true e) ts) (Halted ReadsPiped AtStart (suc d) ts) T Q (measured turns 256 c d ts) _ (measured_sound c e d eq ts)
     (λ a us t. case_if T Q (is_sign s.Comma (peek us)) _ _
     (λ y. let q : (q : Place) × (us ≡ sign s.Comma q ∷ rest us) = seen s.Comma us y in
     let p : Tokens = t.text ++ sign s.Comma q.0 ∷ [] in
     let all : ts ≡ p ++ rest us = t.all ∙ ap (λ z. t.text ++ z) q.1 ∙ sym (append_assoc t.text (sign s.Comma q.0 ∷ []) (rest us)) in
     let even : (m : ℕ) (r : Tokens) → opens m (p ++ r) ≡ opens m r = λ m r. ap (opens m) (append_assoc t.text (sign s.Comma q.0 ∷ []) r) ∙ t.even m (sign s.Comma q.0 ∷ r) in
-    explain (Read (ReadsSomeArgs true e) (rest us)) (Halted (ReadsSomeArgs false e) (suc d) (rest us)) T Q (list_of (measured turns 256 c d) j (rest us)) _ (list_sound c e d eq j (rest us))
+    explain (Read (ReadsSomeArgs true e) (rest us)) (Halted (ReadsSomeArgs false e) AwaitsArg (suc d) (rest us)) T Q (list_of (measured turns 256 c d) j (rest us)) _ (list_sound c e d eq j (rest us))
     (λ es ws w. record {
       text = p ++ w.text;
       all = all ∙ ap (λ z. p ++ z) w.all ∙ sym (append_assoc p w.text ws);
       reads = subst (λ z. ReadsSomeArgs true e z (a ∷ es)) (sym (append_assoc t.text (sign s.Comma q.0 ∷ []) w.text)) (ReadsSomeArgs.next_arg t.text w.text q.0 t.reads w.reads);
       even = λ m r. ap (opens m) (append_assoc p w.text r) ∙ even m (w.text ++ r) ∙ w.even m r;
     })
-    (halted_in (ReadsSomeArgs false e) (ReadsSomeArgs false e) p [] (λ es. a ∷ es)
+    (halted_in (ReadsSomeArgs false e) AwaitsArg (ReadsSomeArgs false e) AwaitsArg p [] (λ es. a ∷ es)
     (λ x es r. no_tail (ReadsSomeArgs false e) p x (a ∷ es) (subst (λ z. ReadsSomeArgs false e z (a ∷ es)) (sym (append_assoc t.text (sign s.Comma q.0 ∷ []) x)) (ReadsSomeArgs.next_arg t.text x q.0 t.reads.0 r)))
-    (λ m. m) even (suc d) (suc d) (λ m. omega arith) (rest us) ts all))
+    (λ y w. subst AwaitsArg (sym (append_assoc t.text (sign s.Comma q.0 ∷ []) y)) (AwaitsArg.later t.text y q.0 t.reads.0 w)) (λ m. m) even (suc d) (suc d) (λ m. omega arith) (rest us) ts all))
     (λ n. record { text = t.text; all = t.all; reads = ReadsSomeArgs.last_arg t.reads; even = t.even }))
-    (halted_in ReadsPiped (ReadsSomeArgs false e) [] [] (λ a. a ∷ []) (λ x a r. no_tail (ReadsSomeArgs false e) [] x (a ∷ []) (ReadsSomeArgs.last_arg r)) (λ m. m) (λ m r. refl) (suc d) (suc d) (λ m. omega arith) ts ts refl)
+    (halted_in ReadsPiped AtStart (ReadsSomeArgs false e) AwaitsArg [] [] (λ a. a ∷ []) (λ x a r. no_tail (ReadsSomeArgs false e) [] x (a ∷ []) (ReadsSomeArgs.last_arg r)) (at_start AwaitsArg [] AwaitsArg.first) (λ m. m) (λ m r. refl) (suc d) (suc d) (λ m. omega arith) ts ts refl)
 
 -- the arguments and the bracket that closes them
 abbrev pub Closes : ℕ → Tokens → List Expr → Tokens → Type 0
 Closes e ts es us = (x : Tokens) × (q : Place) × (ts ≡ x ++ sign s.CloseRound q ∷ us) × IsOpen true (suc e) × ReadsArgs true (suc e) x es × ((m : ℕ) (r : Tokens) → opens m (x ++ r) ≡ opens m r)
 
-args_by : (c e d : ℕ) → suc e + d ≡ 32 → (ts : Tokens) → Is (Closes e ts) (Halted (ReadsArgs false (suc e)) (suc d) ts) (args turns 256 c (suc d) ts)
+args_by : (c e d : ℕ) → suc e + d ≡ 32 → (ts : Tokens) → Is (Closes e ts) (Halted (ReadsArgs false (suc e)) AwaitsArg (suc d) ts) (args turns 256 c (suc d) ts)
 unfolding args
 args_by c e d eq ts =
     let T : List Expr → Tokens → Type 0 = Closes e ts in
-    let Q : Type 0 = Halted (ReadsArgs false (suc e)) (suc d) ts in
+    let Q : Type 0 = Halted (ReadsArgs false (suc e)) AwaitsArg (suc d) ts in
     case_if T Q (is_sign s.CloseRound (peek ts)) (Ok ([], rest ts)) _
     (λ y. let q : (q : Place) × (ts ≡ sign s.CloseRound q ∷ rest ts) = seen s.CloseRound ts y in ([], q.0, q.1, omega arith, ReadsArgs.no_arg, λ m r. refl))
-    (λ n. explain (Read (ReadsSomeArgs true (suc e)) ts) (Halted (ReadsSomeArgs false (suc e)) (suc d) ts) T Q (list_of (measured turns 256 c d) c ts) _ (list_sound c (suc e) d eq c ts)
+    (λ n. explain (Read (ReadsSomeArgs true (suc e)) ts) (Halted (ReadsSomeArgs false (suc e)) AwaitsArg (suc d) ts) T Q (list_of (measured turns 256 c d) c ts) _ (list_sound c (suc e) d eq c ts)
     (λ es us t. explain (λ _ vs. (q : Place) × (us ≡ sign s.CloseRound q ∷ vs)) ⊥ T Q (expect s.CloseRound us) _ (expect_is s.CloseRound us)
     (λ _ vs f. (t.text, f.0, t.all ∙ ap (λ z. t.text ++ z) f.1, omega arith, ReadsArgs.some_args t.reads, t.even))
     (λ none. absurd none))
-    (halted_in (ReadsSomeArgs false (suc e)) (ReadsArgs false (suc e)) [] [] (λ es. es) (λ x es r. no_tail (ReadsArgs false (suc e)) [] x es (ReadsArgs.some_args r)) (λ m. m) (λ m r. refl) (suc d) (suc d) (λ m. omega arith) ts ts refl))
+    (halted_in (ReadsSomeArgs false (suc e)) AwaitsArg (ReadsArgs false (suc e)) AwaitsArg [] [] (λ es. es) (λ x es r. no_tail (ReadsArgs false (suc e)) [] x es (ReadsArgs.some_args r)) (λ y w. w) (λ m. m) (λ m r. refl) (suc d) (suc d) (λ m. omega arith) ts ts refl))
 
-args_none : (c e : ℕ) (ts : Tokens) → Is (Closes e ts) (Halted (ReadsArgs false (suc e)) 0 ts) (args turns 256 c 0 ts)
+args_none : (c e : ℕ) (ts : Tokens) → Is (Closes e ts) (Halted (ReadsArgs false (suc e)) AwaitsArg 0 ts) (args turns 256 c 0 ts)
 unfolding args
 args_none c e ts = record { text = []; tail = ts; more = []; value = []; all = refl; reads = ReadsArgs.no_arg; passes = inl (λ m. omega arith) }
 
-args_sound : (c e d : ℕ) → e + d ≡ 32 → (ts : Tokens) → Is (Closes e ts) (Halted (ReadsArgs false (suc e)) d ts) (args turns 256 c d ts)
+pub args_sound : (c e d : ℕ) → e + d ≡ 32 → (ts : Tokens) → Is (Closes e ts) (Halted (ReadsArgs false (suc e)) AwaitsArg d ts) (args turns 256 c d ts)
 args_sound c e zero eq ts = args_none c e ts
 args_sound c e (suc d) eq ts = args_by c e d (omega arith) ts
 
@@ -181,28 +181,28 @@ no_args e = ReadsCall.call [] origin origin tt ReadsArgs.no_arg
 
 -- what a statement is to its parser, after the tokens pre
 abbrev pub Goes : ℕ → ℕ → Tokens → Outcome Stmt → Type 0
-Goes e d ts r = Is (Read (ReadsSimple true e) ts) (Halted (ReadsSimple false e) (suc d) ts) r
+Goes e d ts r = Is (Read (ReadsSimple true e) ts) (Halted (ReadsSimple false e) AwaitsSimple (suc d) ts) r
 
 set_sound : (c e d : ℕ) → e + d ≡ 32 → (v : List ℕ) (p q : Place) (ts : Tokens) → Goes e d (token (k.Name v) p ∷ sign s.Assign q ∷ ts) (set turns 256 c d p v ts)
 unfolding set
 set_sound c e d eq v p q ts =
     let pre : Tokens = token (k.Name v) p ∷ sign s.Assign q ∷ [] in
-    explain (Read (IsExpr true e) ts) (Halted ReadsPiped (suc d) ts) (Read (ReadsSimple true e) (pre ++ ts)) (Halted (ReadsSimple false e) (suc d) (pre ++ ts)) (measured turns 256 c d ts) _ (measured_sound c e d eq ts)
+    explain (Read (IsExpr true e) ts) (Halted ReadsPiped AtStart (suc d) ts) (Read (ReadsSimple true e) (pre ++ ts)) (Halted (ReadsSimple false e) AwaitsSimple (suc d) (pre ++ ts)) (measured turns 256 c d ts) _ (measured_sound c e d eq ts)
     (λ a us t. record { text = pre ++ t.text; all = ap (λ z. pre ++ z) t.all; reads = ReadsSimple.set v t.text p q t.reads; even = λ m r. t.even m r })
-    (halted_in ReadsPiped (ReadsSimple false e) pre [] (b.Set p v) (λ x a r. no_tail (ReadsSimple false e) pre x (b.Set p v a) (ReadsSimple.set v x p q r)) (λ m. m) (λ m r. refl) (suc d) (suc d) (λ m. omega arith) ts (pre ++ ts) refl)
+    (halted_in ReadsPiped AtStart (ReadsSimple false e) AwaitsSimple pre [] (b.Set p v) (λ x a r. no_tail (ReadsSimple false e) pre x (b.Set p v a) (ReadsSimple.set v x p q r)) (at_start AwaitsSimple pre (AwaitsSimple.value v p q)) (λ m. m) (λ m r. refl) (suc d) (suc d) (λ m. omega arith) ts (pre ++ ts) refl)
 
 run_sound : (c e d : ℕ) → e + d ≡ 32 → (v : List ℕ) (p q : Place) (ts : Tokens) → Goes e d (token (k.Name v) p ∷ sign s.OpenRound q ∷ ts) (run turns 256 c d p v ts)
 unfolding run
 run_sound c e d eq v p q ts =
     let pre : Tokens = token (k.Name v) p ∷ sign s.OpenRound q ∷ [] in
-    explain (Closes e ts) (Halted (ReadsArgs false (suc e)) d ts) (Read (ReadsSimple true e) (pre ++ ts)) (Halted (ReadsSimple false e) (suc d) (pre ++ ts)) (args turns 256 c d ts) _ (args_sound c e d eq ts)
+    explain (Closes e ts) (Halted (ReadsArgs false (suc e)) AwaitsArg d ts) (Read (ReadsSimple true e) (pre ++ ts)) (Halted (ReadsSimple false e) AwaitsSimple (suc d) (pre ++ ts)) (args turns 256 c d ts) _ (args_sound c e d eq ts)
     (λ es us t. record {
       text = pre ++ (t.0 ++ sign s.CloseRound t.1 ∷ []);
       all = ap (λ z. pre ++ z) (t.2 ∙ sym (append_assoc t.0 (sign s.CloseRound t.1 ∷ []) us));
       reads = ReadsSimple.run v _ p (ReadsCall.call t.0 q t.1 t.3 t.4);
       even = λ m r. ap (opens (suc m)) (append_assoc t.0 (sign s.CloseRound t.1 ∷ []) r) ∙ t.5 (suc m) (sign s.CloseRound t.1 ∷ r);
     })
-    (halted_in (ReadsArgs false (suc e)) (ReadsSimple false e) pre (sign s.CloseRound p ∷ []) (b.Do p v) (λ x es r. ReadsSimple.run v _ p (ReadsCall.call x q p tt r)) suc (λ m r. refl) d (suc d) (λ m. omega arith) ts (pre ++ ts) refl)
+    (halted_in (ReadsArgs false (suc e)) AwaitsArg (ReadsSimple false e) AwaitsSimple pre (sign s.CloseRound p ∷ []) (b.Do p v) (λ x es r. ReadsSimple.run v _ p (ReadsCall.call x q p tt r)) (λ y w. AwaitsSimple.argument v y p q w) suc (λ m r. refl) d (suc d) (λ m. omega arith) ts (pre ++ ts) refl)
 
 -- after an owner and its point
 send_sound : (c e d : ℕ) → e + d ≡ 32 → (pre : Tokens) (w : Owner) → ReadsOwner true e pre w → ReadsOwner false e pre w → ((m : ℕ) (r : Tokens) → opens m (pre ++ r) ≡ opens m r) → (ts : Tokens)
@@ -210,7 +210,7 @@ send_sound : (c e d : ℕ) → e + d ≡ 32 → (pre : Tokens) (w : Owner) → R
 unfolding send
 send_sound c e d eq pre w ho hf even ts =
     let T : Stmt → Tokens → Type 0 = Read (ReadsSimple true e) (pre ++ ts) in
-    let Q : Type 0 = Halted (ReadsSimple false e) (suc d) (pre ++ ts) in
+    let Q : Type 0 = Halted (ReadsSimple false e) AwaitsSimple (suc d) (pre ++ ts) in
     explain (λ v us. (q : Place) × (ts ≡ token (k.Name v) q ∷ us)) ⊥ T Q (name ts) _ (name_is ts)
     (λ v us f. explain (λ _ vs. (q : Place) × (us ≡ sign s.OpenRound q ∷ vs)) ⊥ T Q (expect s.OpenRound us) _ (expect_is s.OpenRound us)
     (λ _ vs g.
@@ -218,7 +218,7 @@ send_sound c e d eq pre w ho hf even ts =
     let b2 : Tokens = pre ++ two in
     let whole_text : pre ++ ts ≡ b2 ++ vs = ap (λ z. pre ++ z) (f.1 ∙ ap (λ z. token (k.Name v) f.0 ∷ z) g.1) ∙ sym (append_assoc pre two vs) in
     let counts : (m : ℕ) (r : Tokens) → opens m (b2 ++ r) ≡ opens (suc m) r = λ m r. ap (opens m) (append_assoc pre two r) ∙ even m (two ++ r) in
-    explain (Closes e vs) (Halted (ReadsArgs false (suc e)) d vs) T Q (args turns 256 c d vs) _ (args_sound c e d eq vs)
+    explain (Closes e vs) (Halted (ReadsArgs false (suc e)) AwaitsArg d vs) T Q (args turns 256 c d vs) _ (args_sound c e d eq vs)
     (λ es ws t. record {
       text = b2 ++ (t.0 ++ sign s.CloseRound t.1 ∷ []);
       all = whole_text ∙ ap (λ z. b2 ++ z) (t.2 ∙ sym (append_assoc t.0 (sign s.CloseRound t.1 ∷ []) ws)) ∙ sym (append_assoc b2 (t.0 ++ sign s.CloseRound t.1 ∷ []) ws);
@@ -226,7 +226,7 @@ send_sound c e d eq pre w ho hf even ts =
       even = λ m r. ap (opens m) (append_assoc b2 (t.0 ++ sign s.CloseRound t.1 ∷ []) r) ∙ counts m ((t.0 ++ sign s.CloseRound t.1 ∷ []) ++ r)
           ∙ ap (opens (suc m)) (append_assoc t.0 (sign s.CloseRound t.1 ∷ []) r) ∙ t.5 (suc m) (sign s.CloseRound t.1 ∷ r);
     })
-    (halted_in (ReadsArgs false (suc e)) (ReadsSimple false e) b2 (sign s.CloseRound origin ∷ []) (b.Send (start pre) w v) (λ x es r. sent false pre w v f.0 g.0 x es origin hf tt r) suc counts d (suc d) (λ m. omega arith) vs (pre ++ ts) whole_text))
+    (halted_in (ReadsArgs false (suc e)) AwaitsArg (ReadsSimple false e) AwaitsSimple b2 (sign s.CloseRound origin ∷ []) (b.Send (start pre) w v) (λ x es r. sent false pre w v f.0 g.0 x es origin hf tt r) (λ y awaits. subst AwaitsSimple (sym (append_assoc pre two y)) (AwaitsSimple.sent v pre y f.0 g.0 hf awaits)) suc counts d (suc d) (λ m. omega arith) vs (pre ++ ts) whole_text))
     (λ none. absurd none))
     (λ none. absurd none)
   where
@@ -240,7 +240,7 @@ apart_sound : (c e d : ℕ) → e + d ≡ 32 → (v : List ℕ) (p q : Place) (t
 unfolding apart
 apart_sound c e d eq v p q ts =
     let us : Tokens = token (k.Name v) p ∷ sign s.Question q ∷ ts in
-    explain (λ _ vs. (r : Place) × (ts ≡ sign s.Dot r ∷ vs)) ⊥ (Read (ReadsSimple true e) us) (Halted (ReadsSimple false e) (suc d) us) (expect s.Dot ts) _ (expect_is s.Dot ts)
+    explain (λ _ vs. (r : Place) × (ts ≡ sign s.Dot r ∷ vs)) ⊥ (Read (ReadsSimple true e) us) (Halted (ReadsSimple false e) AwaitsSimple (suc d) us) (expect s.Dot ts) _ (expect_is s.Dot ts)
     (λ _ vs f.
     let pre : Tokens = token (k.Name v) p ∷ sign s.Question q ∷ sign s.Dot f.0 ∷ [] in
     subst (λ z. Goes e d (token (k.Name v) p ∷ sign s.Question q ∷ z) (send turns 256 c d p (o.Safe p v) vs)) (sym f.1)
@@ -256,8 +256,8 @@ unfolding item
 item_by c e d eq v p q ts =
     let two : Tokens = token (k.Name v) p ∷ sign s.OpenSquare q ∷ [] in
     let T : Stmt → Tokens → Type 0 = Read (ReadsSimple true e) (two ++ ts) in
-    let Q : Type 0 = Halted (ReadsSimple false e) (suc (suc d)) (two ++ ts) in
-    explain (Read (IsExpr true (suc e)) ts) (Halted ReadsPiped (suc d) ts) T Q (measured turns 256 c d ts) _ (measured_sound c (suc e) d eq ts)
+    let Q : Type 0 = Halted (ReadsSimple false e) AwaitsSimple (suc (suc d)) (two ++ ts) in
+    explain (Read (IsExpr true (suc e)) ts) (Halted ReadsPiped AtStart (suc d) ts) T Q (measured turns 256 c d ts) _ (measured_sound c (suc e) d eq ts)
     (λ a us t. explain (λ _ vs. (r : Place) × (us ≡ sign s.CloseSquare r ∷ vs)) ⊥ T Q (expect s.CloseSquare us) _ (expect_is s.CloseSquare us)
     (λ _ vs f. explain (λ _ ws. (r : Place) × (vs ≡ sign s.Dot r ∷ ws)) ⊥ T Q (expect s.Dot vs) _ (expect_is s.Dot vs)
     (λ _ ws g.
@@ -269,10 +269,10 @@ item_by c e d eq v p q ts =
     (send_sound c e (suc d) (omega arith) pre (o.Item p v a) (item_owner true e v t.text a p q f.0 g.0 (omega arith) t.reads) (item_owner false e v t.text a p q f.0 g.0 tt t.reads.0) even ws))
     (λ none. absurd none))
     (λ none. absurd none))
-    (halted_in ReadsPiped (ReadsSimple false e) two (sign s.CloseSquare p ∷ sign s.Dot p ∷ token (k.Name []) p ∷ sign s.OpenRound origin ∷ sign s.CloseRound origin ∷ []) (λ a. b.Send p (o.Item p v a) [] [])
+    (halted_in ReadsPiped AtStart (ReadsSimple false e) AwaitsSimple two (sign s.CloseSquare p ∷ sign s.Dot p ∷ token (k.Name []) p ∷ sign s.OpenRound origin ∷ sign s.CloseRound origin ∷ []) (λ a. b.Send p (o.Item p v a) [] [])
     (λ x a r. subst (λ z. ReadsSimple false e (two ++ z) (b.Send p (o.Item p v a) [] [])) (append_assoc x (sign s.CloseSquare p ∷ sign s.Dot p ∷ []) (token (k.Name []) p ∷ sign s.OpenRound origin ∷ sign s.CloseRound origin ∷ []))
     (ReadsSimple.send [] _ _ p (item_owner false e v x a p q p p tt r) (no_args e)))
-    suc (λ m r. refl) (suc d) (suc (suc d)) (λ m. omega arith) ts (two ++ ts) refl)
+    (at_start AwaitsSimple two (AwaitsSimple.position v p q)) suc (λ m r. refl) (suc d) (suc (suc d)) (λ m. omega arith) ts (two ++ ts) refl)
 
 item_none : (c e : ℕ) (v : List ℕ) (p q : Place) (ts : Tokens) → Goes e 0 (token (k.Name v) p ∷ sign s.OpenSquare q ∷ ts) (item turns 256 c 0 p v ts)
 unfolding item
@@ -307,10 +307,10 @@ go_sound : (c e d : ℕ) → e + d ≡ 32 → (v : List ℕ) (p : Place) (ts : T
 go_sound c e d eq v p [] = tt
 go_sound c e d eq v p (t ∷ ts) = go_kind c e d eq v p t.kind t.place ts
 
-simple_sound : (c e d : ℕ) → e + d ≡ 32 → (ts : Tokens) → Goes e d ts (simple turns 256 c d ts)
+pub simple_sound : (c e d : ℕ) → e + d ≡ 32 → (ts : Tokens) → Goes e d ts (simple turns 256 c d ts)
 unfolding simple
 simple_sound c e d eq ts =
-    explain (λ v us. (q : Place) × (ts ≡ token (k.Name v) q ∷ us)) ⊥ (Read (ReadsSimple true e) ts) (Halted (ReadsSimple false e) (suc d) ts) (name ts) _ (name_is ts)
+    explain (λ v us. (q : Place) × (ts ≡ token (k.Name v) q ∷ us)) ⊥ (Read (ReadsSimple true e) ts) (Halted (ReadsSimple false e) AwaitsSimple (suc d) ts) (name ts) _ (name_is ts)
     (λ v us f. subst (λ z. Goes e d z (go_on turns 256 c (after_name turns 256 c d (start z) v (peek us)) us)) (sym f.1) (go_sound c e d eq v f.0 us))
     (λ none. absurd none)
 
@@ -320,7 +320,7 @@ unlimited_some : {e : ℕ} {x : Tokens} {es : List Expr} → ReadsSomeArgs true 
 unlimited_some (ReadsSomeArgs.last_arg h) = ReadsSomeArgs.last_arg h.0
 unlimited_some (ReadsSomeArgs.next_arg x y p h i) = ReadsSomeArgs.next_arg x y p h.0 (unlimited_some i)
 
-unlimited_args : {e : ℕ} {x : Tokens} {es : List Expr} → ReadsArgs true e x es → ReadsArgs false e x es
+pub unlimited_args : {e : ℕ} {x : Tokens} {es : List Expr} → ReadsArgs true e x es → ReadsArgs false e x es
 unlimited_args ReadsArgs.no_arg = ReadsArgs.no_arg
 unlimited_args (ReadsArgs.some_args h) = ReadsArgs.some_args (unlimited_some h)
 
@@ -333,7 +333,7 @@ unlimited_owner (ReadsOwner.safe n p q) = ReadsOwner.safe n p q
 unlimited_owner (ReadsOwner.apart n p q r) = ReadsOwner.apart n p q r
 unlimited_owner (ReadsOwner.item n x p q r t room h) = ReadsOwner.item n x p q r t tt h.0
 
-unlimited : {e : ℕ} {x : Tokens} {a : Stmt} → ReadsSimple true e x a → ReadsSimple false e x a
+pub unlimited : {e : ℕ} {x : Tokens} {a : Stmt} → ReadsSimple true e x a → ReadsSimple false e x a
 unlimited (ReadsSimple.set n x p q h) = ReadsSimple.set n x p q h.0
 unlimited (ReadsSimple.run n x p h) = ReadsSimple.run n x p (unlimited_call h)
 unlimited (ReadsSimple.send n x y p h i) = ReadsSimple.send n x y p (unlimited_owner h) (unlimited_call i)
@@ -353,13 +353,13 @@ ends_all : (us : Tokens) → is_last us ≡ true → us ≡ []
 ends_all [] e = refl
 ends_all (t ∷ us) e = absurd (cc)
 
-pub listener_sound : (c i : ℕ) (ts : Tokens) → Is (Listens ts) (Halted (ReadsListener false) 33 ts) (listener turns 256 c 32 i ts)
+pub listener_sound : (c i : ℕ) (ts : Tokens) → Is (Listens ts) (Halted (ReadsListener false) AwaitsListener 33 ts) (listener turns 256 c 32 i ts)
 unfolding listener
 listener_sound c zero ts = tt
 listener_sound c (suc i) ts =
     let T : List Stmt → Tokens → Type 0 = Listens ts in
-    let Q : Type 0 = Halted (ReadsListener false) 33 ts in
-    explain (Read (ReadsSimple true 0) ts) (Halted (ReadsSimple false 0) 33 ts) T Q (simple turns 256 c 32 ts) _ (simple_sound c 0 32 (omega arith) ts)
+    let Q : Type 0 = Halted (ReadsListener false) AwaitsListener 33 ts in
+    explain (Read (ReadsSimple true 0) ts) (Halted (ReadsSimple false 0) AwaitsSimple 33 ts) T Q (simple turns 256 c 32 ts) _ (simple_sound c 0 32 (omega arith) ts)
     (λ a us t. case_if T Q (is_last us) (Ok (a ∷ [], us)) _
     (λ y. (ends_all us y, subst (λ z. ReadsListener true z (a ∷ [])) (sym (t.all ∙ ap (λ z. t.text ++ z) (ends_all us y) ∙ append-nil t.text)) (ReadsListener.last t.reads)))
     (λ n. explain (λ _ vs. (q : Place) × (us ≡ sign s.Semicolon q ∷ vs)) ⊥ T Q (expect s.Semicolon us) _ (expect_is s.Semicolon us)
@@ -368,10 +368,10 @@ listener_sound c (suc i) ts =
     let all : ts ≡ p ++ vs = t.all ∙ ap (λ z. t.text ++ z) f.1 ∙ sym (append_assoc t.text (sign s.Semicolon f.0 ∷ []) vs) in
     case_if T Q (is_last vs) (Ok (a ∷ [], vs)) _
     (λ y. (ends_all vs y, subst (λ z. ReadsListener true z (a ∷ [])) (sym (all ∙ ap (λ z. p ++ z) (ends_all vs y) ∙ append-nil p)) (ReadsListener.ended t.text f.0 t.reads)))
-    (λ n2. explain (Listens vs) (Halted (ReadsListener false) 33 vs) T Q (listener turns 256 c 32 i vs) _ (listener_sound c i vs)
+    (λ n2. explain (Listens vs) (Halted (ReadsListener false) AwaitsListener 33 vs) T Q (listener turns 256 c 32 i vs) _ (listener_sound c i vs)
     (λ bs ws w. (w.0, subst (λ z. ReadsListener true z (a ∷ bs)) (sym (all ∙ append_assoc t.text (sign s.Semicolon f.0 ∷ []) vs)) (ReadsListener.more t.text vs f.0 t.reads w.1)))
-    (halted_in (ReadsListener false) (ReadsListener false) p [] (λ bs. a ∷ bs)
+    (halted_in (ReadsListener false) AwaitsListener (ReadsListener false) AwaitsListener p [] (λ bs. a ∷ bs)
     (λ x bs r. no_tail (ReadsListener false) p x (a ∷ bs) (subst (λ z. ReadsListener false z (a ∷ bs)) (sym (append_assoc t.text (sign s.Semicolon f.0 ∷ []) x)) (ReadsListener.more t.text x f.0 (unlimited t.reads) r)))
-    (λ m. m) (λ m r. ap (opens m) (append_assoc t.text (sign s.Semicolon f.0 ∷ []) r) ∙ t.even m (sign s.Semicolon f.0 ∷ r)) 33 33 (λ m. omega arith) vs ts all)))
+    (λ y w. subst AwaitsListener (sym (append_assoc t.text (sign s.Semicolon f.0 ∷ []) y)) (AwaitsListener.later t.text y f.0 (unlimited t.reads) w)) (λ m. m) (λ m r. ap (opens m) (append_assoc t.text (sign s.Semicolon f.0 ∷ []) r) ∙ t.even m (sign s.Semicolon f.0 ∷ r)) 33 33 (λ m. omega arith) vs ts all)))
     (λ none. absurd none)))
-    (halted_in (ReadsSimple false 0) (ReadsListener false) [] [] (λ a. a ∷ []) (λ x a r. no_tail (ReadsListener false) [] x (a ∷ []) (ReadsListener.last r)) (λ m. m) (λ m r. refl) 33 33 (λ m. omega arith) ts ts refl)
+    (halted_in (ReadsSimple false 0) AwaitsSimple (ReadsListener false) AwaitsListener [] [] (λ a. a ∷ []) (λ x a r. no_tail (ReadsListener false) [] x (a ∷ []) (ReadsListener.last r)) (λ y w. AwaitsListener.here w) (λ m. m) (λ m r. refl) 33 33 (λ m. omega arith) ts ts refl)

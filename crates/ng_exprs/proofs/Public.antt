@@ -11,7 +11,8 @@ use Rattle.ng_exprs.specs.Grammar.{Tokens, ReadsPiped}
 use Rattle.ng_exprs.specs.Limits.{after, opens, Within, Passes, Over}
 use Rattle.ng_exprs.specs.Parse.{Syntax, Limit, Outcome, whole, turns}
 use Rattle.ng_exprs.proofs.Complete.{Gets, Ends, complete, complete_before}
-use Rattle.ng_exprs.proofs.Sound.{Stuck, Is, Inside, sound, weaken}
+use Rattle.ng_exprs.proofs.Outcomes.{Stuck, Is, Inside, weaken}
+use Rattle.ng_exprs.proofs.Sound.{sound}
 
 pub reads_of : (ts : Tokens) (a : Expr) → whole turns 33 ts ≡ Ok (a, []) → ReadsPiped ts a × Within 32 0 ts
 reads_of ts a e =
@@ -75,10 +76,10 @@ opens_few n (t ∷ ts) = omega (arith, opens_few (after t.kind n) ts, after_one 
     after_one (k.Name _) n = omega arith
     after_one (k.Variable _) n = omega arith
 
-pub no_limit : (ts : Tokens) → (Stuck ReadsPiped (suc (length ts)) (suc (length ts)) ts) → ⊥
-no_limit ts st = passed (ap length st.all ∙ length-append st.text st.tail) st.passes
+pub no_limit : (d n : ℕ) (ts : Tokens) → length ts < d → length ts < n → Stuck ReadsPiped d n ts → ⊥
+no_limit d n ts few short st = passed (ap length st.all ∙ length-append st.text st.tail) st.passes
   where
-    passed : length ts ≡ length st.text + length st.tail → ((m : ℕ) → m + suc (length ts) ≤ opens m st.text) ⊎ (suc (length ts) ≤ length st.text) → ⊥
+    passed : length ts ≡ length st.text + length st.tail → ((m : ℕ) → m + d ≤ opens m st.text) ⊎ (n ≤ length st.text) → ⊥
     passed l (inl h) = absurd (omega (arith, h 0, opens_few 0 st.text, l))
     passed l (inr h) = absurd (omega (arith, h, l))
 
@@ -90,7 +91,7 @@ same_answer a b S (Err Syntax) none h ga gb = absurd ga
 pub reads_one : (ts : Tokens) (a b : Expr) → ReadsPiped ts a → ReadsPiped ts b → a ≡ b
 reads_one ts a b h i =
     let n : ℕ = suc (length ts) in
-    same_answer a b (Stuck ReadsPiped n n ts) (whole n n ts) (no_limit ts)
+    same_answer a b (Stuck ReadsPiped n n ts) (whole n n ts) (no_limit n n ts (omega arith) (omega arith))
     (weaken (Inside n ts) (Stuck ReadsPiped n n ts) (λ _ _. Unit {0}) (Stuck ReadsPiped n n ts) (whole n n ts) (sound n n ts) (λ _ _ _. tt) (λ st. st))
     (complete h n n) (complete i n n)
 
@@ -122,7 +123,7 @@ pub no_longer : (x : Tokens) (a : Expr) → ReadsPiped x a → (t : Token) (w : 
 no_longer x a h t w end b i =
     let ts : Tokens = x ++ t ∷ w in
     let n : ℕ = suc (length ts) in
-    let e : t ∷ w ≡ [] = same_rest a b (t ∷ w) [] (Stuck ReadsPiped n n ts) (whole n n ts) (no_limit ts)
+    let e : t ∷ w ≡ [] = same_rest a b (t ∷ w) [] (Stuck ReadsPiped n n ts) (whole n n ts) (no_limit n n ts (omega arith) (omega arith))
     (weaken (Inside n ts) (Stuck ReadsPiped n n ts) (λ _ _. Unit {0}) (Stuck ReadsPiped n n ts) (whole n n ts) (sound n n ts) (λ _ _ _. tt) (λ st. st))
     (complete_before h n n (t ∷ w) end) (complete i n n) in
     cc

@@ -5,5 +5,9 @@ pub mod Gives
 pub mod Reading
 pub mod Ends
 pub mod Statements
+pub mod Awaits
 pub mod Lines
+pub mod Blocks
+pub mod Phrases
 pub mod Listening
+pub mod Bodies

@@ -1,34 +1,31 @@
--- The readings of a listener's text, and what its reader answers.
-use Rattle.std.specs.Prelude.{◌<◌, ◌⊎◌, Bool, true, false, List, [], Result, Ok, Err}
+-- The readings of a listener's text.
+use Rattle.std.specs.Prelude.{Bool, false, List, Result}
 use Rattle.ng_ast.specs.declared.Place.{Place}
 use Rattle.ng_ast.specs.declared.Stmt.{Stmt}
-use Rattle.ng_tokens.specs.declared.kinds.Token.{Token}
-use Rattle.ng_tokens.specs.Lexis.{Text, Lexes}
-use Rattle.ng_exprs.specs.declared.halt.Halt.{Halt}
 use Rattle.ng_ast.specs.declared.refusals.ReadError.{ReadError}
+use Rattle.ng_tokens.specs.Lexis.{Text}
+use Rattle.ng_exprs.specs.declared.halt.Halt.{Halt}
 use Rattle.ng_exprs.specs.Grammar.{Tokens}
-use Rattle.ng_exprs.specs.Limits.{opens}
-use Rattle.ng_exprs.specs.Statements.{ReadsListener, Begins, EndsLong, OverIn}
-use Rattle.ng_exprs.specs.Reading.{Refused, Halts}
+use Rattle.ng_exprs.specs.Statements.{ReadsListener}
+use Rattle.ng_exprs.specs.Awaits.{AwaitsListener}
+use Rattle.ng_exprs.specs.Phrases.{ReadsPhrase, OverPhrase, NoPhrase, AnswersTokens, AnswersPhrase}
 
 -- the text, whose first byte stands at the place, is this listener; within the limits, if the truth value says so
 abbrev pub ReadsLines : Bool → Place → Text → List Stmt → Type 0
-ReadsLines l base t bs = (ts : List Token) × Lexes false base t ts [] × ReadsListener l ts bs
+ReadsLines l = ReadsPhrase false (ReadsListener l)
 
 -- a front of the text is a listener that is begun, and passes a limit
 abbrev pub OverLines : Place → Text → Type 0
-OverLines base t = (ts : List Token) × (rest : Text) × Lexes false base t ts rest × Begins (ReadsListener false) ts × ((32 < opens 0 ts) ⊎ EndsLong (ReadsListener false) ts)
+OverLines = OverPhrase false (ReadsListener false) AwaitsListener
 
 -- the text is no listener, or none within the limits
 abbrev pub NoLines : Bool → Place → Text → Type 0
-NoLines l base t = (bs : List Stmt) → ReadsLines l base t bs → ⊥
+NoLines l = NoPhrase false (ReadsListener l)
 
--- ---- what the reader of tokens gives
+-- ---- what the readers of tokens and of a text give
+
 abbrev pub AnswersListener : Tokens → Result (List Stmt) Halt → Type 0
-AnswersListener ts (Ok bs) = ReadsListener true ts bs
-AnswersListener ts (Err e) = Halts ((bs : List Stmt) → ReadsListener false ts bs → ⊥) (OverIn (ReadsListener false) ts × ((bs : List Stmt) → ReadsListener true ts bs → ⊥)) e
+AnswersListener = AnswersTokens ReadsListener AwaitsListener
 
--- ---- what the reader of a text gives
 abbrev pub AnswersLines : Place → Text → Result (List Stmt) ReadError → Type 0
-AnswersLines base t (Ok bs) = ReadsLines true base t bs
-AnswersLines base t (Err e) = Refused (NoLines false base t) (OverLines base t × NoLines true base t) e
+AnswersLines = AnswersPhrase false ReadsListener AwaitsListener

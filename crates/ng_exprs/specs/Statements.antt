@@ -1,5 +1,5 @@
--- The grammar of statements and listeners. The truth value says whether the limits are kept: 256 tokens in each expression, 32 open brackets.
-use Rattle.std.specs.Prelude.{◌≡◌, ℕ, suc, ◌<◌, ◌≤◌, ◌⊎◌, Bool, true, false, List, [], ◌∷◌, ◌++◌, length}
+-- The grammar of statements, listeners and bodies. The truth value says whether the limits are kept: 256 tokens in each expression, 32 open brackets.
+use Rattle.std.specs.Prelude.{◌≡◌, ℕ, suc, ◌<◌, ◌≤◌, ◌⊎◌, Bool, true, false, List, [], ◌∷◌, ◌++◌, length, codes}
 use Rattle.ng_ast.specs.declared.Place.{Place}
 use Rattle.ng_ast.specs.declared.Expr.{Expr}
 use Rattle.ng_ast.specs.declared.Owner.{Owner}
@@ -54,16 +54,48 @@ pub data ReadsListener (l : Bool) : Tokens → List Stmt → Type 0 where
   ended : {a : Stmt} (x : Tokens) (p : Place) → ReadsSimple l 0 x a → ReadsListener l (x ++ sign s.Semicolon p ∷ []) (a ∷ [])
   more : {a : Stmt} {others : List Stmt} (x y : Tokens) (p : Place) → ReadsSimple l 0 x a → ReadsListener l y others → ReadsListener l (x ++ sign s.Semicolon p ∷ y) (a ∷ others)
 
+-- ---- bodies
+
+-- if ( e )
+pub data ReadsTest (l : Bool) (e : ℕ) : Tokens → Expr → Type 0 where
+  test : {a : Expr} (x : Tokens) (p q r : Place) → IsOpen l (suc e) → IsExpr l (suc e) x a
+      → ReadsTest l e (token (k.Name (codes "if")) p ∷ sign s.OpenRound q ∷ x ++ sign s.CloseRound r ∷ []) a
+
+mutual
+  -- A statement of a body: one without `if` and its `;`, or an `if` with its blocks. No word is reserved: `if` and `else` may be names.
+  pub data ReadsStmt (l : Bool) : ℕ → Tokens → Stmt → Type 0 where
+    plain : {e : ℕ} {a : Stmt} (x : Tokens) (p : Place) → ReadsSimple l e x a → ReadsStmt l e (x ++ sign s.Semicolon p ∷ []) a
+    conditional : {e : ℕ} {a : Expr} {taken otherwise : List Stmt} (x y z : Tokens) → ReadsTest l e x a → ReadsBlock l e y taken → ReadsElse l e z otherwise
+        → ReadsStmt l e (x ++ (y ++ z)) (b.If (start x) a taken otherwise)
+
+  -- { body }
+  pub data ReadsBlock (l : Bool) : ℕ → Tokens → List Stmt → Type 0 where
+    block : {e : ℕ} {bs : List Stmt} (x : Tokens) (p q : Place) → IsOpen l (suc e) → ReadsStmts l (suc e) x bs → ReadsBlock l e (sign s.OpenBrace p ∷ x ++ sign s.CloseBrace q ∷ []) bs
+
+  -- else { body }, or nothing
+  pub data ReadsElse (l : Bool) : ℕ → Tokens → List Stmt → Type 0 where
+    no_else : {e : ℕ} → ReadsElse l e [] []
+    with_else : {e : ℕ} {bs : List Stmt} (x : Tokens) (p : Place) → ReadsBlock l e x bs → ReadsElse l e (token (k.Name (codes "else")) p ∷ x) bs
+
+  -- any number of statements, one after another
+  pub data ReadsStmts (l : Bool) : ℕ → Tokens → List Stmt → Type 0 where
+    none : {e : ℕ} → ReadsStmts l e [] []
+    next : {e : ℕ} {a : Stmt} {others : List Stmt} (x y : Tokens) → ReadsStmt l e x a → ReadsStmts l e y others → ReadsStmts l e (x ++ y) (a ∷ others)
+
 -- ---- limits
 
 -- some tokens make these whole
 abbrev pub Begins : {A : Type 0} → (Tokens → A → Type 0) → Tokens → Type 0
 Begins {A} R ts = (more : Tokens) × (a : A) × R (ts ++ more) a
 
--- an expression that has more than 256 tokens is begun at the end: after what stands before it, any expression may stand
-abbrev pub EndsLong : {A : Type 0} → (Tokens → A → Type 0) → Tokens → Type 0
-EndsLong R ts = (before x : Tokens) × (ts ≡ before ++ x) × (256 < length x) × Begins ReadsPiped x × ((y : Tokens) (a : Expr) → ReadsPiped y a → Begins R (before ++ y))
+-- an expression that has more than 256 tokens is begun at the end, where one is awaited
+abbrev pub EndsLong : (Tokens → Type 0) → Tokens → Type 0
+EndsLong awaits ts = (before x : Tokens) × (ts ≡ before ++ x) × awaits before × (256 < length x) × Begins ReadsPiped x
+
+-- more than 32 brackets are open at the end, or an expression there is too long
+abbrev pub PassesIn : (Tokens → Type 0) → Tokens → Type 0
+PassesIn awaits ts = (32 < opens 0 ts) ⊎ EndsLong awaits ts
 
 -- some of the tokens at the front are begun, and pass a limit
-abbrev pub OverIn : {A : Type 0} → (Tokens → A → Type 0) → Tokens → Type 0
-OverIn R ts = (front rest : Tokens) × (ts ≡ front ++ rest) × Begins R front × ((32 < opens 0 front) ⊎ EndsLong R front)
+abbrev pub OverIn : {A : Type 0} → (Tokens → A → Type 0) → (Tokens → Type 0) → Tokens → Type 0
+OverIn R awaits ts = (front rest : Tokens) × (ts ≡ front ++ rest) × Begins R front × PassesIn awaits front

@@ -1,6 +1,8 @@
 //! Reads expressions: from a text to its tree, exactly by the grammar, within the limits on brackets and tokens.
 #![tactic(auto)]
 
+mod blocks;
+mod bodies;
 mod ends;
 mod halt;
 mod lines;
@@ -15,6 +17,7 @@ ghost use Rattle.ng_tokens.specs.Scan as lexer;
 ghost use Rattle.ng_exprs.specs.Grammar.{Tokens, ReadsPiped};
 ghost use Rattle.ng_exprs.specs.Reading.{IsNear, ReadsExpr, OverText, IsUnread, Refused, IsOrMemory, Answers, Tells, Scanned, AnswersText};
 
+pub use bodies::{one_body, read_body};
 pub use ends::end_of;
 use halt::Halt;
 pub use listen::{one_listener, read_listener};

@@ -17,8 +17,8 @@ use std::alloc::Global;
 // The tokens that an expression may have.
 const MAX_TOKENS: usize = 256;
 
-// Above the count of the tokens of a text.
-const MOST: usize = 1048577;
+/// Above the count of the tokens of a text.
+pub const MOST: usize = 1048577;
 
 // An expression with its own count of tokens, in which `depth` brackets may be open.
 #[tactic(auto, unfolding(crate::specs::Lines::measured))]
@@ -50,8 +50,8 @@ fn list(alloc: Global, tokens: &mut Tokens, depth: usize, turns: usize) -> Resul
     Err(Halt::Syntax(tokens.at()))
 }
 
-// The arguments, after the bracket that opens them, and the one that closes them.
-fn args(alloc: Global, tokens: &mut Tokens, depth: usize) -> Result<Items<Expr>, Halt>
+/// The arguments, after the bracket that opens them, and the one that closes them.
+pub fn args(alloc: Global, tokens: &mut Tokens, depth: usize) -> Result<Items<Expr>, Halt>
     requires { depth < 1000 }
     ensures { Gives (spec.args loops 256 spec.most depth tokens.old) result tokens.new }
 {
@@ -176,8 +176,9 @@ fn after_name(
     }
 }
 
+/// A statement without `if`, up to its `;`.
 #[tactic(auto, unfolding(crate::specs::Lines::simple))]
-fn simple(alloc: Global, tokens: &mut Tokens, depth: usize) -> Result<Stmt, Halt>
+pub fn simple(alloc: Global, tokens: &mut Tokens, depth: usize) -> Result<Stmt, Halt>
     requires { depth < 1000 }
     ensures { Gives (spec.simple loops 256 spec.most depth tokens.old) result tokens.new }
 {

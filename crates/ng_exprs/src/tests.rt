@@ -1,7 +1,8 @@
-//! Expressions as a table: what is read, what is refused and by which limit, levels, places.
+//! Expressions, listeners and bodies as tables: what is read, what is refused and by which limit, levels, places.
 
 use super::*;
-use ng_ast::Binary;
+use ng_ast::{Binary, Stmt};
+use sqlite_items::Items;
 use std::test::Fail;
 
 const BASE: Place = Place {
@@ -255,4 +256,111 @@ fn listener_limits(rt: HostRuntime) -> Result<(), Fail> {
     call.push(')')?;
     assert_eq!(rt; lines(&rt, call.as_str()), Some(1));
     Ok(())
+}
+
+fn body_answer(rt: &HostRuntime, text: &str) -> (&'static str, usize) {
+    if text.len() > 1048576 {
+        return ("too long", 0);
+    }
+    match read_body(rt.alloc(), text, BASE) {
+        Ok(found) => ("read", found.len()),
+        Err(ReadError::Syntax(_)) => ("syntax", 0),
+        Err(ReadError::Limit(_)) => ("limit", 0),
+        Err(ReadError::Utf8) => ("utf8", 0),
+        Err(ReadError::Memory) => ("memory", 0),
+    }
+}
+
+#[test]
+fn bodies(rt: HostRuntime) {
+    for (text, want) in [
+        ("", ("read", 0)),
+        (" // none\n/* ; */", ("read", 0)),
+        (
+            "n = 'a;}'; // b\nf(a, [b]); x.m(); y?.m(1); y ? .m();",
+            ("read", 5),
+        ),
+        (
+            "if (a) { b(); } else { c = 1; d(); } q[0].go();",
+            ("read", 2),
+        ),
+        ("if(a){}if(b){if(c){}else{}}", ("read", 2)),
+        (
+            "if(x); if = 1; if.m(); if?.m(); if[0].m(); if(); if(x, y);",
+            ("read", 7),
+        ),
+        ("if (a) {} else = 1; else(); else.m();", ("read", 4)),
+        ("if /* a */ ( // b\n c) { } else /* d */ { }", ("read", 1)),
+        ("n = 1", ("syntax", 0)),
+        (";", ("syntax", 0)),
+        ("}", ("syntax", 0)),
+        ("if (a) b();", ("syntax", 0)),
+        ("if (a) { b() }", ("syntax", 0)),
+        ("if (a) {", ("syntax", 0)),
+        ("if () {}", ("syntax", 0)),
+        ("if (a, b) {}", ("syntax", 0)),
+        ("if (a) {} else b();", ("syntax", 0)),
+        ("if (a) {} else {} else {}", ("syntax", 0)),
+        ("else {}", ("syntax", 0)),
+        ("a.b.c();", ("syntax", 0)),
+        ("a /*", ("syntax", 0)),
+    ] {
+        assert_eq!(rt; body_answer(&rt, text), want, "{text}");
+    }
+}
+
+#[test]
+fn body_limits(rt: HostRuntime) -> Result<(), Fail> {
+    for (times, middle, want) in [
+        (32, "a = b;", "read"),
+        (31, "a();", "read"),
+        (32, "a();", "limit"),
+        (31, "a = [b];", "read"),
+        (32, "a = [b];", "limit"),
+        (32, "if (a) {}", "limit"),
+        (33, "", "limit"),
+    ] {
+        let text = nested(&rt, times, "if(a){", middle, "}")?;
+        assert_eq!(rt; body_answer(&rt, text.as_str()).0, want, "{middle}");
+    }
+    let long = nested(&rt, 128, "a+", "a", "")?;
+    let mut text = String::from_str(rt.alloc(), "if (")?;
+    text.push_str(long.as_str())?;
+    text.push_str(") {}")?;
+    assert_eq!(rt; body_answer(&rt, text.as_str()).0, "limit");
+    Ok(())
+}
+
+// The places of an `if` and of the statements at the front of its blocks.
+fn branches(rt: &HostRuntime, text: &str) -> Option<(Place, Option<Place>, Option<Place>)> {
+    if text.len() > 1048576 {
+        return None;
+    }
+    let found = read_body(rt.alloc(), text, BASE).ok()?;
+    match found.get(0)? {
+        Stmt::If(place, _, taken, otherwise) => {
+            Some((*place, first_place(taken), first_place(otherwise)))
+        }
+        _ => None,
+    }
+}
+
+fn first_place(stmts: &Items<Stmt>) -> Option<Place> {
+    match stmts.get(0)? {
+        Stmt::Set(place, _, _) | Stmt::Do(place, _, _) => Some(*place),
+        Stmt::Send(place, _, _, _) | Stmt::If(place, _, _, _) => Some(*place),
+    }
+}
+
+#[test]
+fn body_places(rt: HostRuntime) {
+    let at = |line, column, byte| Place { line, column, byte };
+    assert_eq!(rt;
+        branches(&rt, "/* é */ if ('é') {\n  a.b(); } else { c = 1; }"),
+        Some((at(1, 9, 9), Some(at(2, 3, 23)), Some(at(2, 19, 39))))
+    );
+    assert_eq!(rt;
+        branches(&rt, "if (a) { if (b) { } else { c(); } }"),
+        Some((at(1, 1, 0), Some(at(1, 10, 9)), None))
+    );
 }

@@ -3,13 +3,46 @@
 ghost use Rattle.std.specs.Prelude.{◌≡◌, [], ◌∷◌, reverse, length, MatchOption};
 ghost use Rattle.ng_exprs.specs.Grammar.{start};
 ghost use Rattle.ng_exprs.specs.Parse as spec;
+ghost use Rattle.ng_exprs.specs.Blocks as blocks;
 ghost use Rattle.ng_exprs.specs.Gives.{Gives};
 
 use crate::halt::Halt;
 use ng_ast::Place;
-use ng_tokens::{Kind, Sign, Token};
+use ng_tokens::{Kind, Sign, Token, same_text};
 use ng_values::NgText;
 use std::marker::Model;
+
+fn is_word(word: &[u8], kind: &Kind) -> bool
+    ensures { result ≡ blocks.is_word word.now kind.now }
+{
+    match kind {
+        Kind::Name(name) => same_text(word, name.as_str().as_bytes()),
+        _ => false,
+    }
+}
+
+// The sign at the end, if one stands there.
+fn last_sign(tokens: &[Token]) -> Option<Sign>
+    ensures { result ≡ spec.peek (reverse tokens.now) }
+{
+    match tokens.last() {
+        Some(token) => match token.kind {
+            Kind::Sign(sign) => Some(sign),
+            _ => None,
+        },
+        None => None,
+    }
+}
+
+#[tactic(auto, unfolding(crate::specs::Parse::same))]
+fn is_sign(sign: Sign, found: Option<Sign>) -> bool
+    ensures { result ≡ spec.is_sign sign found }
+{
+    match found {
+        Some(found) => found == sign,
+        None => false,
+    }
+}
 
 /// The tokens that are still to come, which contracts see as their list.
 #[derive(Drop)]
@@ -54,13 +87,7 @@ impl Tokens {
     pub fn peek(&self) -> Option<Sign>
         ensures { result ≡ spec.peek self.now }
     {
-        match self.rest.last() {
-            Some(token) => match token.kind {
-                Kind::Sign(sign) => Some(sign),
-                _ => None,
-            },
-            None => None,
-        }
+        last_sign(self.rest.as_slice())
     }
 
     /// The place of what comes next.
@@ -91,12 +118,18 @@ impl Tokens {
         let _ = self.next();
     }
 
-    #[tactic(auto, unfolding(crate::specs::Parse::same))]
     pub fn sees(&self, sign: Sign) -> bool
         ensures { result ≡ spec.is_sign sign (spec.peek self.now) }
     {
-        match self.peek() {
-            Some(next) => next == sign,
+        is_sign(sign, self.peek())
+    }
+
+    /// The next two tokens are this word and this sign.
+    pub fn sees_word(&self, word: &[u8], sign: Sign) -> bool
+        ensures { result ≡ blocks.sees_word word.now sign self.now }
+    {
+        match self.rest.as_slice().split_last() {
+            Some((first, rest)) => is_word(word, &first.kind) && is_sign(sign, last_sign(rest)),
             None => false,
         }
     }

@@ -1,3 +1,9 @@
 pub mod Numbers
 pub mod Loops
+pub mod SignTable
+pub mod Literals
+pub mod Shapes
+pub mod Pieces
 pub mod Tokens
+pub mod Utf8
+pub mod Scanning

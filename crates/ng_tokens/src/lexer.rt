@@ -1,9 +1,11 @@
 //! From a text to its tokens.
 
-ghost use Rattle.std.specs.Prelude.{◌≡◌, ◌+◌, ◌^◌, ◌<◌, ◌≤◌, length, IfOk, IfSome, OnOk, false, min};
+ghost use Rattle.std.specs.Prelude.{◌≡◌, ℕ, ◌+◌, ◌^◌, ◌<◌, ◌≤◌, Bool, List, [], length, IfOk, IfSome, OnOk, false, min, Some};
 ghost use Rattle.std.specs.List.{prefix_len};
 ghost use Rattle.std.specs.Option.{option_map};
 ghost use Rattle.std.specs.Str.{IsUtf8};
+ghost use Rattle.ng_ast.specs.declared.Place.{Place};
+ghost use Rattle.ng_tokens.specs.declared.kinds.Token.{Token};
 ghost use Rattle.ng_tokens.specs.declared.kinds.Kind.TheVariants as kind;
 ghost use Rattle.ng_tokens.specs.declared.kinds.Shape.TheVariants as shape;
 ghost use Rattle.ng_tokens.specs.Lexis as text;
@@ -354,3 +356,11 @@ pub fn scan(alloc: Global, comments: bool, text: &str, base: Place) -> Result<Ve
     }
     Ok(found)
 }
+
+/// `scan` by the relation `Lexes`, in which each token is the longest that stands there. What it finds are tokens of the whole text,
+/// and tokens of the whole text are found; so a text has one list of tokens at most.
+pub fn one_scan()
+    ensures sound { (comments : Bool) (base : Place) (t : List ℕ) (ts : List Token) → spec.scan comments 0 base t ≡ Some ts → text.Lexes comments base t ts [] }
+    ensures complete { (comments : Bool) (base : Place) (t : List ℕ) (ts : List Token) → text.Lexes comments base t ts [] → spec.scan comments 0 base t ≡ Some ts }
+    ensures one { (comments : Bool) (base : Place) (t : List ℕ) (ts us : List Token) → text.Lexes comments base t ts [] → text.Lexes comments base t us [] → ts ≡ us }
+{}

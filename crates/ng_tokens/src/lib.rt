@@ -7,7 +7,7 @@ mod place;
 mod signs;
 
 pub use kinds::{Kind, Shape, Sign, Token};
-pub use lexer::{ScanError, piece, scan, shape};
+pub use lexer::{ScanError, one_scan, piece, scan, shape};
 pub use place::steps;
 pub use signs::{begins, same_text};
 

@@ -1,5 +1,5 @@
 use Rattle.ng_exprs.specs.Lines.{most}
-use Rattle.ng_exprs.proofs.LinesText.{listener_ok, listener_err}
+use Rattle.ng_exprs.proofs.LinesPublic.{listener_ok, listener_err}
 use Rattle.ng_exprs.proofs.listen.read_tokens.Goals as goal
 
 pub returns-in-Ok : goal.returns-in-Ok

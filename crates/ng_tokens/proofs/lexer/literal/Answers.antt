@@ -1,4 +1,4 @@
-use Rattle.ng_tokens.proofs.Tokens.{literal_front}
+use Rattle.ng_tokens.proofs.Scanning.{literal_front}
 use Rattle.ng_tokens.proofs.lexer.literal.Goals as goal
 
 pub text_of-requires : goal.text_of-requires

@@ -1,5 +1,5 @@
 use Rattle.std.proofs.Common.{sym}
-use Rattle.ng_tokens.proofs.Tokens.{front_written, front_utf8}
+use Rattle.ng_tokens.proofs.Scanning.{front_written, front_utf8}
 use Rattle.ng_tokens.proofs.lexer.piece.Goals as goal
 
 pub kind-requires-clause-written : goal.kind-requires-clause-written

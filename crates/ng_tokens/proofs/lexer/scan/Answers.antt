@@ -1,5 +1,5 @@
 use Rattle.std.proofs.Common.{sym, ◌∙◌}
-use Rattle.ng_tokens.proofs.Tokens.{inv_none, inv_some, inv_end, is_more, is_end}
+use Rattle.ng_tokens.proofs.Scanning.{inv_none, inv_some, inv_end, is_more, is_end}
 use Rattle.ng_tokens.proofs.lexer.scan.Goals as goal
 
 pub returns-in_default : goal.returns-in_default

@@ -1,6 +1,6 @@
 use Rattle.std.proofs.Common.{length}
 use Rattle.ng_tokens.specs.Scan.{scan}
-use Rattle.ng_tokens.proofs.Tokens.{Inv}
+use Rattle.ng_tokens.proofs.Scanning.{Inv}
 use Rattle.ng_tokens.proofs.lexer.scan.Given as goal
 
 abbrev pub invariant-loop-rest : goal.invariant-loop-rest

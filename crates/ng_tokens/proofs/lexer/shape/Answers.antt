@@ -1,5 +1,5 @@
 use Rattle.std.proofs.Common.{sym}
-use Rattle.ng_tokens.proofs.Tokens.{find_within}
+use Rattle.ng_tokens.proofs.Scanning.{find_within}
 use Rattle.ng_tokens.proofs.lexer.shape.Goals as goal
 
 pub returns-in_ok-sign-clause-within : goal.returns-in_ok-sign-clause-within
