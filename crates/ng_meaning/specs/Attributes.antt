@@ -11,7 +11,8 @@ use Rattle.ng_ast.specs.declared.AttrForm.{AttrForm}
 use Rattle.ng_ast.specs.declared.AttrForm.TheVariants as form
 use Rattle.ng_ast.specs.declared.TAttr.{TAttr}
 use Rattle.ng_meaning.specs.Lists.{Text, look, change_at, has_any, distinct, distinct_onto}
-use Rattle.ng_meaning.specs.Selectors.{is_blank, words}
+use Rattle.ng_tokens.specs.Lexis.{is_blank}
+use Rattle.ng_selectors.specs.Fits.{words}
 
 -- an attribute list in the making: names with values, of which one may be absent at its place
 abbrev pub Attributes : Type 0

@@ -1,5 +1,5 @@
 -- What the nodes of a view evaluate in a pass, and the views that they show.
-use Rattle.std.specs.Prelude.{ℕ, suc, ◌+◌, ◌%◌, pos, Bool, true, false, nat_eq, if◌then◌else◌, List, [], ◌∷◌, ◌++◌, map, length, count_by, Option, Some, None, Result, Ok, Err, codes, bytes_eq, find, unwrap_or}
+use Rattle.std.specs.Prelude.{ℕ, suc, ◌+◌, ◌%◌, pos, Bool, true, false, nat_eq, if◌then◌else◌, List, [], ◌∷◌, ◌++◌, map, length, Option, Some, None, Result, Ok, Err, codes, bytes_eq, filter, find, unwrap_or}
 use Rattle.std.specs.List.{filter_map, list_any}
 use Rattle.std.specs.Map.{lookup}
 use Rattle.ng_values.specs.declared.plain.Plain.{Plain}
@@ -180,12 +180,16 @@ track_names head i w = (head.row, item.Value w) ∷ (codes "$index", number_item
 abbrev pub track_value : App → Visit → Place → ForHead → ℕ → Value → Passing Value
 track_value app v p head i w = binding app v [] p (λ s. mean_value most_calls (only s (track_names head i w)) (unwrap_or head.track head.list))
 
+-- how many rows have a track value
+abbrev pub having : Value → List Row → ℕ
+having k rows = length (filter (λ r. same_value k r.key) rows)
+
 -- the rows of a list, of which some are there already
 abbrev pub rows_from : App → Visit → Place → ForHead → List Row → List Plain → Passing (List Row)
 rows_from app v p head rows [] = pure rows
 rows_from app v p head rows (d ∷ ds) = do
   k ← track_value app v p head (length rows) (item_value d)
-  rows_from app v p head (rows ++ record { key = k; nth = count_by (λ r. same_value k r.key) rows; item = item_value d } ∷ []) ds
+  rows_from app v p head (rows ++ record { key = k; nth = having k rows; item = item_value d } ∷ []) ds
 
 -- ---- outlets
 

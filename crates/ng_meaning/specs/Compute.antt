@@ -32,7 +32,9 @@ unfolding
     Rattle.ng_tree.specs.declared.PNode.TheBlock.the_depth
     Rattle.ng_tree.specs.declared.PNode.TheBlock.shown-the_row-PNode-0 Rattle.ng_tree.specs.declared.PNode.TheBlock.hidden-the_row-PNode-0
     Rattle.ng_tree.specs.declared.PNode.TheViews.out-PNode Rattle.ng_tree.specs.declared.PNode.TheViews.roll-PNode
-    Rattle.ng_meaning.specs.Selectors.one_fits Rattle.ng_meaning.specs.Selectors.fits Rattle.ng_meaning.specs.Selectors.selector_of
+    Rattle.ng_selectors.specs.Fits.one_fits Rattle.ng_selectors.specs.Fits.part_fits Rattle.ng_selectors.specs.Fits.fits
+    Rattle.ng_selectors.specs.Parse.part Rattle.ng_selectors.specs.Parse.parts Rattle.ng_selectors.specs.Parse.one Rattle.ng_selectors.specs.Parse.negation
+    Rattle.ng_selectors.specs.Parse.alternative Rattle.ng_selectors.specs.Parse.alternatives Rattle.ng_selectors.specs.Parse.selector_of
     Rattle.ng_meaning.specs.Expressions.mean Rattle.ng_meaning.specs.Expressions.interpolated
     Rattle.ng_meaning.specs.Template.nodes_from Rattle.ng_meaning.specs.Template.nodes_of
     Rattle.ng_meaning.specs.Places.outlines Rattle.ng_meaning.specs.Places.way

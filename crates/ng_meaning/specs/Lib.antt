@@ -5,7 +5,6 @@ pub mod Declared
 pub mod Same
 pub mod World
 pub mod Expressions
-pub mod Selectors
 pub mod Template
 pub mod Places
 pub mod Init

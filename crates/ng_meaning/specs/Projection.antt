@@ -8,7 +8,8 @@ use Rattle.ng_ast.specs.declared.TAttr.{TAttr}
 use Rattle.ng_ast.specs.declared.AttrForm.{AttrForm}
 use Rattle.ng_ast.specs.declared.AttrForm.TheVariants as form
 use Rattle.ng_meaning.specs.Lists.{Text, distinct, has_any}
-use Rattle.ng_meaning.specs.Selectors.{selector_of, slot, default_slot}
+use Rattle.ng_selectors.specs.Parse.{selector_of}
+use Rattle.ng_selectors.specs.Slots.{slot, default_slot}
 use Rattle.ng_meaning.specs.Template.{Form, Element, Host, NgContent, NgContainer, NgTemplate, TextNode, If, For, Switch, Let, Nodes, no_nodes, node, Branches, no_branches, branch, seen_all, template_nodes}
 use Rattle.ng_meaning.specs.Places.{Outline}
 

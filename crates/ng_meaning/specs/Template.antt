@@ -17,7 +17,8 @@ use Rattle.ng_ast.specs.Nodes.{count, node_count}
 use Rattle.ng_meaning.specs.Levels.{whole}
 use Rattle.ng_meaning.specs.Lists.{Text}
 use Rattle.ng_meaning.specs.Declared.{components}
-use Rattle.ng_meaning.specs.Selectors.{Attr, fits}
+use Rattle.ng_selectors.specs.declared.Attr.{Attr}
+use Rattle.ng_selectors.specs.Fits.{fits}
 
 mutual
   -- What a node is. A host is an element that a component's selector matches. `ng-content` has its fallback inside. The last part of a `For` is its

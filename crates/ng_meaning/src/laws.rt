@@ -12,6 +12,10 @@ ghost use Rattle.ng_meaning.specs.Places.{Trail};
 ghost use Rattle.ng_meaning.specs.Injection.{provided, resolved};
 ghost use Rattle.ng_meaning.specs.Tree.{State};
 ghost use Rattle.ng_meaning.specs.Passes.{lives, living, Passed, pass};
+ghost use Rattle.ng_meaning.specs.Events.{Event};
+ghost use Rattle.ng_meaning.specs.Runs.{Turn, run_with};
+ghost use Rattle.ng_meaning.specs.Laws.Apart.{In};
+ghost use Rattle.ng_meaning.specs.Laws.Growing.{IsInOrder, ViewsCounted};
 ghost use Rattle.ng_meaning.specs.Printing.{escaped, escaped_value};
 
 /// Two different texts, or two different values of attributes, are never printed alike.
@@ -35,4 +39,13 @@ pub fn live_sites_are_kept()
         → held (living instances world) at ≡ (if lives instances at then held world at else None) }
     ensures after_pass { (app : App) (every : Bool) (marks : List Trail) (z : State) (p : Passed) (at : Site)
         → pass app every marks z ≡ Ok p → is_live p.state.world at ≡ true → lives p.state.tree.instances at ≡ true }
+{}
+
+/// In the tree that a pass leaves no path stands twice, and each view stands behind the one that it is in.
+/// The tree that the pass began with has its rows counted, as every tree has that a pass left.
+pub fn paths_are_in_order()
+    ensures in_passes { (app : App) (every : Bool) (marks : List Trail) (z : State) (p : Passed)
+        → ViewsCounted z.tree.views → pass app every marks z ≡ Ok p → IsInOrder p.state.tree.views × ViewsCounted p.state.tree.views }
+    ensures in_runs { (app : App) (every : Bool) (events : List Event) (t : Turn)
+        → In t (run_with app every events).turns → IsInOrder t.state.tree.views }
 {}

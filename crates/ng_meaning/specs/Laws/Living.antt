@@ -36,7 +36,7 @@ held_living is (e ∷ rest) at =
     (λ found. ap (lives is) ((same_site_decides at e.0).0 found)) (held_living is rest at)
 
 -- what a pass leaves is what is living at its end
-left_by : (r : Result (Unit {0}) PassFault) (s : Pass) (p : Passed) → ended (r, s) ≡ Ok p → p ≡ passed s
+pub left_by : (r : Result (Unit {0}) PassFault) (s : Pass) (p : Passed) → ended (r, s) ≡ Ok p → p ≡ passed s
 left_by (Ok u) s p e = sym (cc)
 left_by (Err f) s p e = cc
 
