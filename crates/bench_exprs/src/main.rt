@@ -5,10 +5,9 @@
 use ng_ast::{Place, ReadError};
 use ng_exprs::read_body;
 use std::alloc::{AllocError, Global};
-use std::env;
-use std::io;
 use std::rt::Runtime;
 use std::time::Instant;
+use std::{env, io};
 
 const BASE: Place = Place {
     line: 1,
@@ -23,7 +22,10 @@ const MOST: usize = 1024;
 const TEXTS: [(&str, &str); 5] = [
     ("sums", "x = x + 1;\n"),
     ("calls", "f(a, [b, 'c'], {d: 1}); g.h($event);\n"),
-    ("blocks", "if (a) { b = c ? d : e; } else { f?.g(h | i); } // j\n"),
+    (
+        "blocks",
+        "if (a) { b = c ? d : e; } else { f?.g(h | i); } // j\n",
+    ),
     ("names", "x "),
     ("no tokens", "@"),
 ];
