@@ -1,4 +1,0 @@
-pub mod ScopeLaws
-pub mod ExprLaws
-pub mod StmtLaws
-pub mod TemplateLaws
