@@ -8,6 +8,11 @@ pub mod Rows
 pub mod Shown
 pub mod Keeping
 pub mod Growing
+pub mod Turns
+pub mod Pieces
+pub mod Regions
+pub mod Units
+pub mod Once
 pub mod Injection
 pub mod Living
 pub mod Expressions

@@ -10,12 +10,15 @@ ghost use Rattle.ng_meaning.specs.Lists.{Text};
 ghost use Rattle.ng_meaning.specs.World.{World, Read, held, is_live};
 ghost use Rattle.ng_meaning.specs.Places.{Trail};
 ghost use Rattle.ng_meaning.specs.Injection.{provided, resolved};
-ghost use Rattle.ng_meaning.specs.Tree.{State};
+ghost use Rattle.ng_meaning.specs.Tree.{Tree, State};
 ghost use Rattle.ng_meaning.specs.Passes.{lives, living, Passed, pass};
 ghost use Rattle.ng_meaning.specs.Events.{Event};
 ghost use Rattle.ng_meaning.specs.Runs.{Turn, run_with};
-ghost use Rattle.ng_meaning.specs.Laws.Apart.{In};
+ghost use Rattle.ng_meaning.specs.Page.{page};
+ghost use Rattle.ng_meaning.specs.Laws.Apart.{In, Apart};
 ghost use Rattle.ng_meaning.specs.Laws.Growing.{IsInOrder, ViewsCounted};
+ghost use Rattle.ng_meaning.specs.Laws.Pages.{node_ids};
+ghost use Rattle.ng_meaning.specs.Laws.Units.{ShowsSlotsOnce};
 ghost use Rattle.ng_meaning.specs.Printing.{escaped, escaped_value};
 
 /// Two different texts, or two different values of attributes, are never printed alike.
@@ -48,4 +51,11 @@ pub fn paths_are_in_order()
         → ViewsCounted z.tree.views → pass app every marks z ≡ Ok p → IsInOrder p.state.tree.views × ViewsCounted p.state.tree.views }
     ensures in_runs { (app : App) (every : Bool) (events : List Event) (t : Turn)
         → In t (run_with app every events).turns → IsInOrder t.state.tree.views }
+{}
+
+/// No node stands twice on a page, where no two `ng-content`s that are live show the same slot of one instance.
+pub fn page_has_nodes_once()
+    ensures on_pages { (app : App) (tree : Tree) → ViewsCounted tree.views → ShowsSlotsOnce app tree → Apart (node_ids (page app tree)) }
+    ensures in_runs { (app : App) (every : Bool) (events : List Event) (t : Turn)
+        → In t (run_with app every events).turns → ShowsSlotsOnce app t.state.tree → Apart (node_ids t.page) }
 {}

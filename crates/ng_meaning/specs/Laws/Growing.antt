@@ -15,11 +15,9 @@ use Rattle.ng_meaning.specs.Steps.{and_then, ◌>>=◌, ◌>>◌, pure, get, cha
 use Rattle.ng_meaning.specs.Same.{same_path}
 use Rattle.ng_meaning.specs.Template.{Form, Host, Node, nodes_of}
 use Rattle.ng_meaning.specs.Places.{Trail, Outline, Outlines, instance_at, entered, root_view}
-use Rattle.ng_meaning.specs.Tree.{Tree, State, empty, View, empty_view, view_at, value_of, names_seen}
+use Rattle.ng_meaning.specs.Tree.{Tree, State, View, empty_view, view_at, value_of, names_seen}
 use Rattle.ng_meaning.specs.Bindings.{Pass, PassFault, Passing, Spot, spot, Visit, evaluate, Shown, views_shown}
 use Rattle.ng_meaning.specs.Declared.{root_component}
-use Rattle.ng_meaning.specs.Events.{Event, Handled, handle, has_pass}
-use Rattle.ng_meaning.specs.Runs.{Turn, Run, onto, without_pass, with_pass, stopped, run_from, run_with}
 use Rattle.ng_meaning.specs.Laws.Living.{left_by}
 use Rattle.ng_meaning.specs.Passes.{make, own_spot, bear_instance, grow_root, begun, Passed, passed, pass, make_node, start, set_inputs, inputs, is_due, enter, turn, turn_in, turn_host, visit_in, visit_node, view_of, visit_view, grow}
 use Rattle.ng_meaning.specs.Laws.Apart.{In, Apart, In-append, In-left, In-right, Apart-append, Apart-right, Apart-cross, In-flat_map}
@@ -42,10 +40,10 @@ cancel (a ∷ t) [] x y l e = absurd (omega (arith, ap length e, length-append t
 cancel (a ∷ t) (b ∷ u) x y l e = cancel t u x y l (ap (drop 1) e)
 
 -- a path goes on from one view inside of a view at most
-same_step_below : (p q : Trail) (s r : Step) → Below (s ∷ p) q → Below (r ∷ p) q → s ≡ r
+pub same_step_below : (p q : Trail) (s r : Step) → Below (s ∷ p) q → Below (r ∷ p) q → s ≡ r
 same_step_below p q s r a b = let e : s ∷ p ≡ r ∷ p = cancel a.0 b.0 (s ∷ p) (r ∷ p) refl (sym a.1 ∙ b.1) in cc
 
-never_itself : (p : Trail) (s : Step) → Below (s ∷ p) p → ⊥
+pub never_itself : (p : Trail) (s : Step) → Below (s ∷ p) p → ⊥
 never_itself p s a = omega (arith, ap length a.1, length-append a.0 (s ∷ p))
 
 -- the path of the view in which a view stands is among some
@@ -208,7 +206,7 @@ goes_once m n (step.Row k w j) g h = sym g ∙ h
 goes_once m n (step.Outlet k t) g h = sym g ∙ h
 
 -- the step to the instance on a host
-abbrev host_steps : Node → Form → List Step
+abbrev pub host_steps : Node → Form → List Step
 host_steps q (Host c tag attrs nodes) = step.Child q.number ∷ []
 host_steps q f = []
 
@@ -236,7 +234,7 @@ found_here true w further h k = h
 found_here false w further h k = k
 
 -- a view that is found among views whose rows are counted
-found_counted : (p : Trail) (views : List (Trail × View)) → ViewsCounted views → WasCounted (view_at p views)
+pub found_counted : (p : Trail) (views : List (Trail × View)) → ViewsCounted views → WasCounted (view_at p views)
 found_counted p [] h = tt
 found_counted p (v ∷ views) h = found_here (same_path p v.0) v.1 (view_at p views) h.0 (found_counted p views h.1)
 
@@ -402,7 +400,7 @@ in_order views g =
     let whole : g.more ≡ views = sym g.is in
     subst (λ v. IsInOrder v × ViewsCounted v) whole (record { apart = g.apart; follows = g.follows [] tt }, g.counted)
 
-root_begins : (app : App) (c : Option Component) → BeginsAt [] (root_view app c)
+pub root_begins : (app : App) (c : Option Component) → BeginsAt [] (root_view app c)
 root_begins app None = tt
 root_begins app (Some c) = refl
 
@@ -415,46 +413,3 @@ pass-IsInOrder app every marks z p counted e =
     let q : p ≡ passed r.1 = left_by r.0 r.1 p e in
     subst (λ (t : Passed). IsInOrder t.state.tree.views × ViewsCounted t.state.tree.views) (sym q)
     (in_order r.1.views (root_grows app z.tree every marks counted os (root_view-HaveNumbers app (root_component app)) (root_begins app (root_component app)) (begun z.world)))
-
--- ---- runs
-
-turns_in_order : (app : App) (every : Bool) (es : List Event) (z : State) → IsInOrder z.tree.views → ViewsCounted z.tree.views → (t : Turn) → In t (run_from app every z es).turns → IsInOrder t.state.tree.views
-turns_in_order app every [] z o c t i = absurd i
-turns_in_order app every (e ∷ es) z o c t i = by_event (turns_in_order app every es) (has_pass h.outcome) i
-  where
-    h : Handled
-    h = handle app z e
-
-    -- what the event left
-    left : State
-    left = record { world = h.world; tree = z.tree }
-
-    rest : Result Passed PassFault → Run
-    rest r = elim r [ Ok p ↦ onto (with_pass app every (Some h.outcome) p) (run_from app every p.state es) | Err f ↦ stopped app every (Some h.outcome) f ]
-
-    -- the events that follow, from whatever state is left
-    Following : Type 0
-    Following = (y : State) → IsInOrder y.tree.views → ViewsCounted y.tree.views → (u : Turn) → In u (run_from app every y es).turns → IsInOrder u.state.tree.views
-
-    by_pass : Following → (r : Result Passed PassFault) → pass app every h.marks left ≡ r → In t (rest r).turns → IsInOrder t.state.tree.views
-    by_pass more (Ok p) d (inl k) = subst (λ (u : Turn). IsInOrder u.state.tree.views) (sym k) (pass-IsInOrder app every h.marks left p c d).0
-    by_pass more (Ok p) d (inr j) = let q = pass-IsInOrder app every h.marks left p c d in more p.state q.0 q.1 t j
-    by_pass more (Err f) d j = absurd j
-
-    by_event : Following → (b : Bool) → In t (elim b as (λ _. Run) [ false ↦ onto (without_pass app every z h.outcome) (run_from app every z es) | true ↦ rest (pass app every h.marks left) ]).turns → IsInOrder t.state.tree.views
-    by_event more false (inl k) = subst (λ (u : Turn). IsInOrder u.state.tree.views) (sym k) o
-    by_event more false (inr j) = more z o c t j
-    by_event more true j = by_pass more (pass app every h.marks left) refl j
-
--- After the first pass and after each event, the tree is in order.
-pub run-IsInOrder : (app : App) (every : Bool) (es : List Event) (t : Turn) → In t (run_with app every es).turns → IsInOrder t.state.tree.views
-unfolding run_with
-run-IsInOrder app every es t i = by_pass (pass app every [] empty) refl i
-  where
-    rest : Result Passed PassFault → Run
-    rest r = elim r [ Ok p ↦ onto (with_pass app every None p) (run_from app every p.state es) | Err f ↦ stopped app every None f ]
-
-    by_pass : (r : Result Passed PassFault) → pass app every [] empty ≡ r → In t (rest r).turns → IsInOrder t.state.tree.views
-    by_pass (Ok p) d (inl k) = subst (λ (u : Turn). IsInOrder u.state.tree.views) (sym k) (pass-IsInOrder app every [] empty p tt d).0
-    by_pass (Ok p) d (inr j) = let q = pass-IsInOrder app every [] empty p tt d in turns_in_order app every es p.state q.0 q.1 t j
-    by_pass (Err f) d j = absurd j

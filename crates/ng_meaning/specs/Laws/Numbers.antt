@@ -126,11 +126,11 @@ module _ (app : App) where
 -- ---- the nodes of a view
 
 mutual
-  Numbered-le : (nodes : Nodes) (lo hi : ℕ) → Numbered lo hi nodes → lo ≤ hi
+  pub Numbered-le : (nodes : Nodes) (lo hi : ℕ) → Numbered lo hi nodes → lo ≤ hi
   Numbered-le no_nodes lo hi h = h
   Numbered-le (node n p f rest) lo hi h = let below : lo ≤ n = h.1 in omega (arith, NumberedForm-le f (n + 1) h.0 h.2, Numbered-le rest h.0 hi h.3)
 
-  NumberedForm-le : (f : Form) (lo hi : ℕ) → NumberedForm lo hi f → lo ≤ hi
+  pub NumberedForm-le : (f : Form) (lo hi : ℕ) → NumberedForm lo hi f → lo ≤ hi
   NumberedForm-le (Element tag attrs nodes) lo hi h = Numbered-le nodes lo hi h
   NumberedForm-le (Host c tag attrs nodes) lo hi h = Numbered-le nodes lo hi h
   NumberedForm-le (NgContent attrs nodes) lo hi h = Numbered-le nodes lo hi h

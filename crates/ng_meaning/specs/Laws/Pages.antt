@@ -1,14 +1,14 @@
--- One level of a page: how it is printed, and which elements it has.
+-- One level of a page: how it is printed, which elements it has, and which nodes.
 use Rattle.std.specs.Prelude.{◌≡◌, ℕ, ◌<◌, ◌++◌, List, [], ◌∷◌, refl}
 use Rattle.std.specs.List.{flat_map}
-use Rattle.std.proofs.Common.{ap, arith}
+use Rattle.std.proofs.Common.{ap, arith, ◌∙◌}
 use denote.Param.Weighed.{most}
 use Rattle.ng_tree.specs.declared.NodeId.{NodeId}
 use Rattle.ng_tree.specs.declared.PNode.{PNode, out-PNode, roll-PNode, size-PNode}
 use Rattle.ng_tree.specs.declared.PNode.TheOpen.{PNode-F}
 use Rattle.ng_tree.specs.declared.PNode.TheVariants as page
 use Rattle.ng_tree.specs.declared.PNode.TheViews.{roll-out-PNode, sized-Element, sized-Host}
-use Rattle.ng_meaning.specs.Levels.{whole_is}
+use Rattle.ng_meaning.specs.Levels.{whole, whole_is}
 use Rattle.ng_meaning.specs.Lists.{Text}
 use Rattle.ng_meaning.specs.Printing.{element_text, html_layer, html}
 use Rattle.ng_meaning.specs.Events.{elements_layer, elements}
@@ -40,3 +40,39 @@ elements_alike f g (PNode-F.Text i t) h = refl
 -- A node has its elements one level over those of its children.
 pub elements_is : (p : PNode) → elements p ≡ elements_layer elements (out-PNode p)
 elements_is = whole_is out-PNode size-PNode [] elements_layer (λ f g t h. elements_alike f g (out-PNode t) (λ u small. h u (omega (arith, ap size-PNode (roll-out-PNode t)))))
+
+-- ---- the nodes of a page
+
+-- one level of a page, given the nodes inside a node
+abbrev pub node_ids_layer : (PNode → List NodeId) → PNode-F PNode → List NodeId
+node_ids_layer inner (PNode-F.Element i tag attrs kids) = i ∷ flat_map inner kids
+node_ids_layer inner (PNode-F.Host i tag attrs kids) = i ∷ flat_map inner kids
+node_ids_layer inner (PNode-F.Text i t) = i ∷ []
+
+-- the identities of the nodes of a page, in document order
+abbrev pub node_ids : PNode → List NodeId
+node_ids = whole out-PNode size-PNode [] node_ids_layer
+
+node_ids_alike : (f g : PNode → List NodeId) (l : PNode-F PNode) → ((u : PNode) → size-PNode u < size-PNode (roll-PNode l) → f u ≡ g u) → node_ids_layer f l ≡ node_ids_layer g l
+node_ids_alike f g (PNode-F.Element i tag attrs kids) h =
+    ap (λ (r : List NodeId). i ∷ r) (flat_map_alike f g _ kids h (omega (arith, ap size-PNode (page.rolls-Element i tag attrs kids), sized-Element i tag attrs kids)))
+node_ids_alike f g (PNode-F.Host i tag attrs kids) h =
+    ap (λ (r : List NodeId). i ∷ r) (flat_map_alike f g _ kids h (omega (arith, ap size-PNode (page.rolls-Host i tag attrs kids), sized-Host i tag attrs kids)))
+node_ids_alike f g (PNode-F.Text i t) h = refl
+
+-- A node has its nodes one level over those of its children.
+pub node_ids_is : (p : PNode) → node_ids p ≡ node_ids_layer node_ids (out-PNode p)
+node_ids_is = whole_is out-PNode size-PNode [] node_ids_layer (λ f g t h. node_ids_alike f g (out-PNode t) (λ u small. h u (omega (arith, ap size-PNode (roll-out-PNode t)))))
+
+-- the nodes of pages side by side
+abbrev pub all_ids : List PNode → List NodeId
+all_ids = flat_map node_ids
+
+pub node_ids-Element : (i : NodeId) (tag : Text) (attrs : List (Text × Text)) (kids : List PNode) → node_ids (page.Element i tag attrs kids) ≡ i ∷ all_ids kids
+node_ids-Element i tag attrs kids = node_ids_is (page.Element i tag attrs kids) ∙ ap (node_ids_layer node_ids) (page.outs-Element i tag attrs kids)
+
+pub node_ids-Host : (i : NodeId) (tag : Text) (attrs : List (Text × Text)) (kids : List PNode) → node_ids (page.Host i tag attrs kids) ≡ i ∷ all_ids kids
+node_ids-Host i tag attrs kids = node_ids_is (page.Host i tag attrs kids) ∙ ap (node_ids_layer node_ids) (page.outs-Host i tag attrs kids)
+
+pub node_ids-Text : (i : NodeId) (t : Text) → node_ids (page.Text i t) ≡ i ∷ []
+node_ids-Text i t = node_ids_is (page.Text i t) ∙ ap (node_ids_layer node_ids) (page.outs-Text i t)

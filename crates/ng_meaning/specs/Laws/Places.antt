@@ -68,7 +68,7 @@ BeginsAt p [] = Unit {0}
 BeginsAt p (o ∷ outer) = o.path ≡ p
 
 -- what a node of a view leads to has a property, where the node is there
-at_found : (P : Outlines → Type 0) (found : Option Node) (f : Node → Outlines) → P [] → ((q : Node) → found ≡ Some q → P (f q)) → P (elim found [ None ↦ [] | Some q ↦ f q ])
+pub at_found : (P : Outlines → Type 0) (found : Option Node) (f : Node → Outlines) → P [] → ((q : Node) → found ≡ Some q → P (f q)) → P (elim found [ None ↦ [] | Some q ↦ f q ])
 at_found P None f none some = none
 at_found P (Some q) f none some = some q refl
 
