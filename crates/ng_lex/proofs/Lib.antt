@@ -1,0 +1,13 @@
+pub mod Texts
+pub mod Ends
+pub mod Tags
+pub mod Written
+pub mod Complete
+pub mod Sound
+pub mod Cutting
+pub mod Utf8
+pub mod Boundaries
+pub mod Loops
+pub mod Decoding
+pub mod Numerals
+pub mod Reading

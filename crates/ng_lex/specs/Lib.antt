@@ -1,0 +1,11 @@
+pub mod Letters
+pub mod Words
+pub mod Names
+pub mod Values
+pub mod Attributes
+pub mod Heads
+pub mod Lexis
+pub mod Heavy
+pub mod Spans
+pub mod Span
+pub mod Decode
