@@ -12,9 +12,9 @@ use Rattle.ng_ast.specs.declared.refusals.ReadError.TheVariants as r
 use Rattle.ng_exprs.specs.Grammar.{Tokens, ReadsPiped}
 use Rattle.ng_exprs.specs.Limits.{IsBegun, Passes, Over}
 
--- the place is one of a text that isn't too long
+-- the numbers of the place are at most 2 ^ 30: a text of 1 MiB that begins there has no place beyond 2 ^ 31
 abbrev pub IsNear : Place → Type 0
-IsNear p = (p.line ≤ 1048577) × (p.column ≤ 1048577) × (p.byte ≤ 1048577)
+IsNear p = (p.line ≤ 1073741824) × (p.column ≤ 1073741824) × (p.byte ≤ 1073741824)
 
 -- the text, whose first byte stands at the place, is this expression
 abbrev pub ReadsExpr : Bool → Place → Text → Expr → Type 0
