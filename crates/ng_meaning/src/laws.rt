@@ -1,10 +1,12 @@
 //! Laws of the definitions.
 
-ghost use Rattle.std.specs.Prelude.{◌≡◌, List, Bool, true, None, Option, Ok, Err, if◌then◌else◌};
+ghost use Rattle.std.specs.Prelude.{◌≡◌, ◌⊎◌, List, Bool, true, None, Option, Ok, Err, if◌then◌else◌};
 ghost use Rattle.ng_values.specs.declared.fault.Fault.{Fault};
 ghost use Rattle.ng_ast.specs.declared.App.{App};
 ghost use Rattle.ng_ast.specs.declared.Flag.{Flag};
 ghost use Rattle.ng_tree.specs.declared.Item.{Item};
+ghost use Rattle.ng_tree.specs.declared.NodeId.{NodeId};
+ghost use Rattle.ng_tree.specs.declared.NodeId.TheVariants as id;
 ghost use Rattle.ng_tree.specs.declared.Site.{Site};
 ghost use Rattle.ng_meaning.specs.Lists.{Text};
 ghost use Rattle.ng_meaning.specs.World.{World, Read, held, is_live};
@@ -18,6 +20,7 @@ ghost use Rattle.ng_meaning.specs.Page.{page};
 ghost use Rattle.ng_meaning.specs.Laws.Apart.{In, Apart};
 ghost use Rattle.ng_meaning.specs.Laws.Growing.{IsInOrder, ViewsCounted};
 ghost use Rattle.ng_meaning.specs.Laws.Pages.{node_ids};
+ghost use Rattle.ng_meaning.specs.Laws.OnPage.{IsOnPage};
 ghost use Rattle.ng_meaning.specs.Laws.Units.{ShowsSlotsOnce};
 ghost use Rattle.ng_meaning.specs.Printing.{escaped, escaped_value};
 
@@ -53,9 +56,12 @@ pub fn paths_are_in_order()
         → In t (run_with app every events).turns → IsInOrder t.state.tree.views }
 {}
 
-/// No node stands twice on a page, where no two `ng-content`s that are live show the same slot of one instance.
-pub fn page_has_nodes_once()
-    ensures on_pages { (app : App) (tree : Tree) → ViewsCounted tree.views → ShowsSlotsOnce app tree → Apart (node_ids (page app tree)) }
-    ensures in_runs { (app : App) (every : Bool) (events : List Event) (t : Turn)
+/// A page has its root, and each element, host and text that is on it by what the views show, and no others.
+/// No node stands twice, where no two `ng-content`s that are live show the same slot of one instance.
+pub fn page_has_each_shown_node_once()
+    ensures each { (app : App) (tree : Tree) (i : NodeId) → IsOnPage app tree i → In i (node_ids (page app tree)) }
+    ensures others { (app : App) (tree : Tree) (i : NodeId) → In i (node_ids (page app tree)) → (i ≡ id.Root) ⊎ IsOnPage app tree i }
+    ensures once { (app : App) (tree : Tree) → ViewsCounted tree.views → ShowsSlotsOnce app tree → Apart (node_ids (page app tree)) }
+    ensures once_in_runs { (app : App) (every : Bool) (events : List Event) (t : Turn)
         → In t (run_with app every events).turns → ShowsSlotsOnce app t.state.tree → Apart (node_ids t.page) }
 {}
