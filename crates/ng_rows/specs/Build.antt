@@ -75,3 +75,7 @@ reports = record { reports = true; traces = false }
 -- the instances too that each pass checked
 abbrev pub traces : Wanted
 traces = record { reports = false; traces = true }
+
+-- both: the instances that each pass checked, and after the page the live ones
+abbrev pub full : Wanted
+full = record { reports = true; traces = true }
