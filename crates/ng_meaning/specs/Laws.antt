@@ -19,6 +19,8 @@ pub mod Members
 pub mod Each
 pub mod Injection
 pub mod Above
+pub mod Ways
+pub mod Searches
 pub mod Living
 pub mod Expressions
 pub mod Statements

@@ -1,6 +1,6 @@
 //! Laws of the definitions.
 
-ghost use Rattle.std.specs.Prelude.{◌≡◌, ◌⊎◌, List, Bool, true, None, Option, Ok, Err, if◌then◌else◌};
+ghost use Rattle.std.specs.Prelude.{◌≡◌, ◌⊎◌, ℕ, List, Bool, true, None, Option, Ok, Err, if◌then◌else◌};
 ghost use Rattle.ng_values.specs.declared.fault.Fault.{Fault};
 ghost use Rattle.ng_ast.specs.declared.App.{App};
 ghost use Rattle.ng_ast.specs.declared.Flag.{Flag};
@@ -11,7 +11,8 @@ ghost use Rattle.ng_tree.specs.declared.Site.{Site};
 ghost use Rattle.ng_meaning.specs.Lists.{Text};
 ghost use Rattle.ng_meaning.specs.World.{World, Read, held, is_live};
 ghost use Rattle.ng_meaning.specs.Places.{Trail};
-ghost use Rattle.ng_meaning.specs.Injection.{provided, resolved};
+ghost use Rattle.ng_meaning.specs.Declared.{root};
+ghost use Rattle.ng_meaning.specs.Injection.{upwards, environments_from, route, first_fit, give, search, provided, resolved};
 ghost use Rattle.ng_meaning.specs.Tree.{Tree, State};
 ghost use Rattle.ng_meaning.specs.Passes.{lives, living, Passed, pass};
 ghost use Rattle.ng_meaning.specs.Events.{Event};
@@ -37,6 +38,13 @@ pub fn injection_goes_by_place()
         → (resolved app from token flags world).0 ≡ Ok i → provided app from token flags ≡ Ok i }
     ensures refused { (app : App) (from : Option Site) (token : Text) (flags : List Flag) (world : World) (f : Fault)
         → provided app from token flags ≡ Err f → resolved app from token flags world ≡ (Err f, world) }
+{}
+
+/// A search for a token is one step over the searches for what the step found: however far they go, none is cut off.
+pub fn searches_go_to_their_end()
+    ensures steps { (app : App) (making : List Site) (from : Option Site) (token : Text) (flags : List Flag)
+        → search app making from token flags ≡ give app (search app) token flags making (first_fit app token flags (route app from)) }
+    ensures environments { (app : App) (name : Text) (n : ℕ) → In root (upwards app n name) → upwards app n name ≡ environments_from app name }
 {}
 
 /// A pass keeps exactly the sites that live on: what is held of them stays, and of all others nothing.

@@ -1,5 +1,5 @@
 -- What is on a page by what the views show is drawn.
-use Rattle.std.specs.Prelude.{◌≡◌, ◌⊎◌, ℕ, zero, suc, ◌+◌, ◌-◌, ◌<◌, ◌≤◌, Bool, true, false, if◌then◌else◌, List, [], ◌∷◌, ◌++◌, map, length, Option, Some, None, refl}
+use Rattle.std.specs.Prelude.{◌≡◌, ℕ, suc, ◌+◌, ◌-◌, ◌≤◌, Bool, true, false, if◌then◌else◌, List, [], ◌∷◌, ◌++◌, length, Option, Some, None, refl}
 use Rattle.std.specs.List.{flat_map}
 use Rattle.std.proofs.Common.{inl, inr, ap, sym, ◌∙◌, subst, arith}
 use Rattle.std.proofs.lemmas.Bool.{eq-eqb}
@@ -7,16 +7,14 @@ use Rattle.ng_ast.specs.declared.App.{App}
 use Rattle.ng_ast.specs.declared.Component.{Component}
 use Rattle.ng_ast.specs.declared.TAttr.{TAttr}
 use Rattle.ng_tree.specs.declared.NodeId.{NodeId}
-use Rattle.ng_tree.specs.declared.NodeId.TheVariants as id
 use Rattle.ng_tree.specs.declared.PNode.{PNode}
-use Rattle.ng_tree.specs.declared.PNode.TheVariants as page_node
 use Rattle.ng_tree.specs.declared.Step.{Step}
 use Rattle.ng_tree.specs.declared.Step.TheVariants as step
 use Rattle.ng_meaning.specs.Lists.{Text}
-use Rattle.ng_meaning.specs.Template.{Form, Element, Host, NgContent, NgContainer, NgTemplate, TextNode, If, For, Switch, Let, Nodes, no_nodes, node, Node, view_nodes, node_at}
+use Rattle.ng_meaning.specs.Template.{Form, Element, Host, NgContent, NgContainer, NgTemplate, TextNode, If, For, Switch, Let, Nodes, no_nodes, node, Node, node_at}
 use Rattle.ng_meaning.specs.Places.{Trail, Outline, Outlines, node_id, entered, outlines}
 use Rattle.ng_meaning.specs.Projection.{slot_of, shown_slot, is_number}
-use Rattle.ng_meaning.specs.Tree.{Tree, NodeValue, view_at, value_of}
+use Rattle.ng_meaning.specs.Tree.{Tree, view_at, value_of}
 use Rattle.ng_meaning.specs.Bindings.{Shown, views_shown}
 use Rattle.ng_meaning.specs.Passes.{is_page_node}
 use Rattle.ng_meaning.specs.Page.{Handed, handed_to, together, page_nodes, draw_views, draw_outlets, draw_nodes, draw_form, draw, draw_root, page}

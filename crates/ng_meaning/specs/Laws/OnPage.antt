@@ -1,5 +1,5 @@
 -- Which nodes are on the page, told without drawing it.
-use Rattle.std.specs.Prelude.{◌≡◌, ◌⊎◌, ℕ, ◌+◌, ◌≤◌, Bool, true, List, [], ◌∷◌, length, Option, Some, None}
+use Rattle.std.specs.Prelude.{◌≡◌, ◌⊎◌, ℕ, ◌+◌, ◌≤◌, true, List, [], ◌∷◌, length, Some}
 use Rattle.ng_ast.specs.declared.App.{App}
 use Rattle.ng_ast.specs.declared.Component.{Component}
 use Rattle.ng_ast.specs.declared.TAttr.{TAttr}
@@ -7,7 +7,7 @@ use Rattle.ng_tree.specs.declared.NodeId.{NodeId}
 use Rattle.ng_tree.specs.declared.Step.{Step}
 use Rattle.ng_tree.specs.declared.Step.TheVariants as step
 use Rattle.ng_meaning.specs.Lists.{Text}
-use Rattle.ng_meaning.specs.Template.{Form, Element, Host, NgContent, NgContainer, Nodes, no_nodes, node}
+use Rattle.ng_meaning.specs.Template.{Form, Element, Host, NgContainer, Nodes, no_nodes, node}
 use Rattle.ng_meaning.specs.Places.{Trail, Outline, Outlines, node_id, outlines}
 use Rattle.ng_meaning.specs.Projection.{slot_of}
 use Rattle.ng_meaning.specs.Tree.{Tree, view_at, value_of}

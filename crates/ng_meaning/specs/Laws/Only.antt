@@ -1,6 +1,5 @@
 -- What a page has is on it by what the views show.
-use Rattle.std.specs.Prelude.{◌≡◌, ◌⊎◌, ℕ, zero, suc, ◌+◌, ◌<◌, ◌≤◌, Bool, true, false, List, [], ◌∷◌, ◌++◌, map, length, Option, Some, None, refl}
-use Rattle.std.specs.List.{flat_map}
+use Rattle.std.specs.Prelude.{◌≡◌, ◌⊎◌, ℕ, zero, suc, ◌+◌, ◌≤◌, true, List, [], ◌∷◌, ◌++◌, length, Option, Some, None, refl}
 use Rattle.std.proofs.Common.{inl, inr, ap, sym, ◌∙◌, subst, arith}
 use Rattle.std.proofs.lemmas.Bool.{eqb-true}
 use Rattle.ng_ast.specs.declared.App.{App}
@@ -9,10 +8,8 @@ use Rattle.ng_ast.specs.declared.TAttr.{TAttr}
 use Rattle.ng_tree.specs.declared.NodeId.{NodeId}
 use Rattle.ng_tree.specs.declared.NodeId.TheVariants as id
 use Rattle.ng_tree.specs.declared.PNode.{PNode}
-use Rattle.ng_tree.specs.declared.PNode.TheVariants as page_node
 use Rattle.ng_tree.specs.declared.Step.{Step}
 use Rattle.ng_tree.specs.declared.Step.TheVariants as step
-use Rattle.ng_meaning.specs.Declared.{root_component}
 use Rattle.ng_meaning.specs.Lists.{Text}
 use Rattle.ng_meaning.specs.Template.{Form, Element, Host, NgContent, NgContainer, NgTemplate, TextNode, If, For, Switch, Let, Nodes, no_nodes, node}
 use Rattle.ng_meaning.specs.Places.{Trail, Outline, Outlines, node_id, entered, outlines}
