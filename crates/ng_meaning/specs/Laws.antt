@@ -21,6 +21,7 @@ pub mod Injection
 pub mod Above
 pub mod Ways
 pub mod Searches
+pub mod Visited
 pub mod Living
 pub mod Expressions
 pub mod Statements

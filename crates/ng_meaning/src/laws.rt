@@ -1,6 +1,6 @@
 //! Laws of the definitions.
 
-ghost use Rattle.std.specs.Prelude.{◌≡◌, ◌⊎◌, ℕ, List, Bool, true, None, Option, Ok, Err, if◌then◌else◌};
+ghost use Rattle.std.specs.Prelude.{◌≡◌, ◌⊎◌, ◌∷◌, ◌≤◌, ℕ, length, List, Bool, true, None, Option, Ok, Err, if◌then◌else◌};
 ghost use Rattle.ng_values.specs.declared.fault.Fault.{Fault};
 ghost use Rattle.ng_ast.specs.declared.App.{App};
 ghost use Rattle.ng_ast.specs.declared.Flag.{Flag};
@@ -10,7 +10,7 @@ ghost use Rattle.ng_tree.specs.declared.NodeId.TheVariants as id;
 ghost use Rattle.ng_tree.specs.declared.Site.{Site};
 ghost use Rattle.ng_meaning.specs.Lists.{Text};
 ghost use Rattle.ng_meaning.specs.World.{World, Read, held, is_live};
-ghost use Rattle.ng_meaning.specs.Places.{Trail};
+ghost use Rattle.ng_meaning.specs.Places.{Trail, Outline, Outlines, outlines};
 ghost use Rattle.ng_meaning.specs.Declared.{root};
 ghost use Rattle.ng_meaning.specs.Injection.{upwards, environments_from, route, first_fit, give, search, provided, resolved};
 ghost use Rattle.ng_meaning.specs.Tree.{Tree, State};
@@ -19,10 +19,10 @@ ghost use Rattle.ng_meaning.specs.Events.{Event};
 ghost use Rattle.ng_meaning.specs.Runs.{Turn, run_with};
 ghost use Rattle.ng_meaning.specs.Page.{page};
 ghost use Rattle.ng_meaning.specs.Laws.Apart.{In, Apart};
-ghost use Rattle.ng_meaning.specs.Laws.Growing.{IsInOrder, ViewsCounted};
+ghost use Rattle.ng_meaning.specs.Laws.Growing.{paths, IsInOrder, ViewsCounted};
 ghost use Rattle.ng_meaning.specs.Laws.Pages.{node_ids};
 ghost use Rattle.ng_meaning.specs.Laws.OnPage.{IsOnPage};
-ghost use Rattle.ng_meaning.specs.Laws.Units.{ShowsSlotsOnce};
+ghost use Rattle.ng_meaning.specs.Laws.Units.{IsShown, ShowsSlotsOnce};
 ghost use Rattle.ng_meaning.specs.Printing.{escaped, escaped_value};
 
 /// Two different texts, or two different values of attributes, are never printed alike.
@@ -62,6 +62,14 @@ pub fn paths_are_in_order()
         → ViewsCounted z.tree.views → pass app every marks z ≡ Ok p → IsInOrder p.state.tree.views × ViewsCounted p.state.tree.views }
     ensures in_runs { (app : App) (every : Bool) (events : List Event) (t : Turn)
         → In t (run_with app every events).turns → IsInOrder t.state.tree.views }
+{}
+
+/// Each view that a tree shows was visited by the pass that left it, and has at most 63 steps. So a page, for which
+/// no longer paths are drawn, misses none.
+pub fn shown_views_are_live()
+    ensures { (app : App) (every : Bool) (marks : List Trail) (z : State) (r : Passed) → pass app every marks z ≡ Ok r
+        → (p : Trail) (o : Outline) (outer : Outlines) → IsShown app r.state.tree p → outlines app p ≡ o ∷ outer
+        → In p (paths r.state.tree.views) × (length p ≤ 63) }
 {}
 
 /// A page has its root, and each element, host and text that is on it by what the views show, and no others.

@@ -131,7 +131,7 @@ In-mapped h [] x i = absurd i
 In-mapped h (y ∷ xs) x (inl e) = inl (ap h e)
 In-mapped h (y ∷ xs) x (inr i) = inr (In-mapped h xs x i)
 
-In-flat : {A B : Type 0} (h : A → List B) (xs : List A) (x : A) (b : B) → In x xs → In b (h x) → In b (flat_map h xs)
+pub In-flat : {A B : Type 0} (h : A → List B) (xs : List A) (x : A) (b : B) → In x xs → In b (h x) → In b (flat_map h xs)
 In-flat h [] x b i j = absurd i
 In-flat h (y ∷ xs) x b (inl e) j = In-left (h y) (flat_map h xs) b (subst (λ z. In b (h z)) e j)
 In-flat h (y ∷ xs) x b (inr i) j = In-right (h y) (flat_map h xs) b (In-flat h xs x b i j)
