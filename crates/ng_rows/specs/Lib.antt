@@ -6,3 +6,4 @@ pub mod Providers
 pub mod Checking
 pub mod Queries
 pub mod Bound
+pub mod Faults

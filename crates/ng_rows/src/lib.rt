@@ -9,5 +9,6 @@ pub mod bound;
 pub mod checking;
 pub mod content;
 pub mod counter;
+pub mod faults;
 pub mod providers;
 pub mod queries;
