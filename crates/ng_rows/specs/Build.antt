@@ -15,6 +15,8 @@ use Rattle.ng_ast.specs.declared.Member.{Member}
 use Rattle.ng_ast.specs.declared.MemberKind.{MemberKind}
 use Rattle.ng_ast.specs.declared.Component.{Component}
 use Rattle.ng_ast.specs.declared.Service.{Service}
+use Rattle.ng_ast.specs.declared.Provider.{Provider}
+use Rattle.ng_ast.specs.declared.Environment.{Environment}
 use Rattle.ng_meaning.specs.Lists.{Text}
 use Rattle.ng_meaning.specs.Events.{Event, On, Call}
 use Rattle.ng_meaning.specs.Lines.{Wanted}
@@ -55,6 +57,10 @@ component place name chosen onpush members begins nodes =
 -- a service: its name, whether it is a `root` service, and its members
 abbrev pub service : Place → Text → Bool → List Member → Service
 service place name root members = record { place = place; name = name; root = root; members = members }
+
+-- an environment: its name, the one that it stands under, and its providers
+abbrev pub environment : Place → Text → Option Text → List (Place × Provider) → Environment
+environment place name under provides = record { place = place; name = name; under = under; provides = provides }
 
 -- a click on the nth element of a tag
 abbrev pub click : Text → ℕ → Event

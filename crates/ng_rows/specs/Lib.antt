@@ -7,3 +7,4 @@ pub mod Checking
 pub mod Queries
 pub mod Bound
 pub mod Faults
+pub mod Outlets

@@ -10,5 +10,6 @@ pub mod checking;
 pub mod content;
 pub mod counter;
 pub mod faults;
+pub mod outlets;
 pub mod providers;
 pub mod queries;
