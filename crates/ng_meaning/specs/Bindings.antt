@@ -12,6 +12,7 @@ use Rattle.ng_values.specs.Parts.{value_at as member_at}
 use Rattle.ng_values.specs.View.{value_of as item_value}
 use Rattle.ng_ast.specs.declared.App.{App}
 use Rattle.ng_ast.specs.declared.Place.{Place}
+use Rattle.ng_ast.specs.declared.Binary.TheVariants as binary
 use Rattle.ng_ast.specs.declared.Expr.{Expr}
 use Rattle.ng_ast.specs.declared.Piece.{Piece}
 use Rattle.ng_ast.specs.declared.Piece.TheVariants as piece
@@ -30,7 +31,7 @@ use Rattle.ng_meaning.specs.Levels.{whole}
 use Rattle.ng_meaning.specs.Lists.{Text, look, change_at}
 use Rattle.ng_meaning.specs.Same.{same_value, same_path}
 use Rattle.ng_meaning.specs.World.{World, Read, value_or_null}
-use Rattle.ng_meaning.specs.Expressions.{Scope, Meaning, need, mean, mean_value, interpolated, only, most_calls}
+use Rattle.ng_meaning.specs.Expressions.{Scope, Meaning, need, combined, mean, mean_value, interpolated, only, most_calls}
 use Rattle.ng_meaning.specs.Template.{Form, Element, Host, NgContent, NgContainer, NgTemplate, TextNode, If, For, Switch, Let, Nodes, node, Branches, no_branches, branch, Node, nodes_of, node_at, branch_name, attributes}
 use Rattle.ng_meaning.specs.Places.{Trail, Outline, Outlines, instance_at, node_site}
 use Rattle.ng_meaning.specs.Projection.{is_filled}
@@ -145,12 +146,7 @@ default_branch n (branch (Some e) name nodes bs) = default_branch (suc n) bs
 
 -- whether `e == c`, both evaluated anew
 abbrev pub is_case : Scope → Expr → Expr → Meaning Bool
-is_case s e c = do
-  i ← mean most_calls s e
-  j ← mean most_calls s c
-  x ← need i
-  y ← need j
-  pure (same_value x y)
+is_case s e c = combined binary.Eq (mean most_calls s e) (mean most_calls s c) >>= need >>= (λ w. pure (truth w))
 
 -- the first case that is equal to the value, else the one that is given
 abbrev pub switch_head : Expr → Option (ℕ × Value) → ℕ → Branches → Scope → Meaning (Option (ℕ × Value))

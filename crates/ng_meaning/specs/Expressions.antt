@@ -172,11 +172,16 @@ abbrev pub first_site : List Site → Item
 first_site [] = item.Value val.Null
 first_site (at ∷ ats) = item.Site at
 
--- `viewchild` and `contentchild` give the first result alone
+-- whether a query gives its first result alone, as `viewchild` and `contentchild` do
+abbrev pub gives_first : QueryKind → Bool
+gives_first query.ViewChild = true
+gives_first query.ContentChild = true
+gives_first query.ViewChildren = false
+gives_first query.ContentChildren = false
+
+-- what the name of a query gives: all results, or the first one
 abbrev pub query_item : QueryKind → List Site → Item
-query_item query.ViewChild ats = first_site ats
-query_item query.ContentChild ats = first_site ats
-query_item _ ats = item.Sites ats
+query_item k ats = if gives_first k then first_site ats else item.Sites ats
 
 -- ---- getters, declared pipes and signals
 

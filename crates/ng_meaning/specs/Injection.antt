@@ -1,6 +1,7 @@
 -- Dependency injection: what a token gives where it is asked for, and the services that are born for it.
 use Rattle.std.specs.Prelude.{ℕ, zero, suc, ◌+◌, ◌*◌, Bool, true, false, ◌&&◌, if◌then◌else◌, List, [], ◌∷◌, ◌++◌, map, length, reverse, take, drop, Option, Some, None, Result, Ok, Err, bytes_eq, filter, slice_index_or, unwrap_or}
 use Rattle.std.specs.List.{list_any}
+use Rattle.std.specs.Option.{option_or}
 use Rattle.ng_values.specs.declared.value.Value.TheVariants as val
 use Rattle.ng_values.specs.declared.fault.Fault.{Fault}
 use Rattle.ng_values.specs.declared.fault.Fault.TheVariants.{NoProvider, CircularDependency}
@@ -18,7 +19,7 @@ use Rattle.ng_tree.specs.declared.Item.{Item}
 use Rattle.ng_tree.specs.declared.Item.TheVariants as item
 use Rattle.ng_tree.specs.Names.{tokens, environments}
 use Rattle.ng_meaning.specs.Steps.{Steps, ◌>>=◌, ◌>>◌, pure, fail, change, all}
-use Rattle.ng_meaning.specs.Lists.{Text, last, or_next}
+use Rattle.ng_meaning.specs.Lists.{Text, last}
 use Rattle.ng_meaning.specs.Declared.{service, environment, root, token_number, environment_number, bootstrap, Request, requests, providers, view_providers, token_of}
 use Rattle.ng_meaning.specs.Same.{same_site}
 use Rattle.ng_meaning.specs.World.{is_live, born}
@@ -96,21 +97,21 @@ itself_at token e = if bytes_eq token e.component.name then Some (Itself (instan
 
 -- at an entry: the last fitting view provider where it is seen from inside, else the last fitting provider, else the component
 abbrev pub at_entry : App → Text → Entry → Option Found
-at_entry app token e = or_next (view_provider_at app token e) (or_next (provider_at app token e) (itself_at token e))
+at_entry app token e = option_or (view_provider_at app token e) (option_or (provider_at app token e) (itself_at token e))
 
 -- at the end of a Host search: no providers but view providers
 abbrev pub at_host_end : App → Text → Entry → Option Found
-at_host_end app token e = or_next (view_provider_at app token e) (itself_at token e)
+at_host_end app token e = option_or (view_provider_at app token e) (itself_at token e)
 
 -- along entries
 abbrev pub at_entries : App → Text → List Entry → Option Found
 at_entries app token [] = None
-at_entries app token (e ∷ es) = or_next (at_entry app token e) (at_entries app token es)
+at_entries app token (e ∷ es) = option_or (at_entry app token e) (at_entries app token es)
 
 -- along the entries after the first, up to the instance whose template has the host, where a Host search ends
 abbrev pub up_to_host : App → Text → List Entry → Option Found
 up_to_host app token [] = None
-up_to_host app token (e ∷ es) = if e.inside then at_host_end app token e else or_next (at_entry app token e) (up_to_host app token es)
+up_to_host app token (e ∷ es) = if e.inside then at_host_end app token e else option_or (at_entry app token e) (up_to_host app token es)
 
 -- whether a service can be made without a provider
 abbrev pub is_root_service : Option Service → Bool
@@ -126,13 +127,13 @@ environment_providers (Some e) = map (λ p. p.1) e.provides
 abbrev pub at_environment : App → Text → Text → Option Found
 at_environment app token name =
     let at = site.Env (environment_number app name) (token_number app token) in
-    or_next (found_at (last_for token (environment_providers (environment app name))) at)
+    option_or (found_at (last_for token (environment_providers (environment app name))) at)
     (if bytes_eq name root && is_root_service (service app token) then Some (Provided (provider.Plain token) at) else None)
 
 -- along environments
 abbrev pub at_environments : App → Text → List Text → Option Found
 at_environments app token [] = None
-at_environments app token (name ∷ names) = or_next (at_environment app token name) (at_environments app token names)
+at_environments app token (name ∷ names) = option_or (at_environment app token name) (at_environments app token names)
 
 -- whether two flags are one
 abbrev pub same_flag : Flag → Flag → Bool
@@ -150,12 +151,12 @@ has_flag f = list_any (same_flag f)
 abbrev pub host_search : App → Text → Bool → List Entry → Option Found
 host_search app token skip [] = None
 host_search app token true (e ∷ es) = up_to_host app token es
-host_search app token false (e ∷ es) = or_next (at_entry app token e) (up_to_host app token es)
+host_search app token false (e ∷ es) = option_or (at_entry app token e) (up_to_host app token es)
 
 -- all of a route, where SkipSelf drops the first entry, or the first environment of a search that begins in one
 abbrev pub whole_search : App → Text → Bool → Route → Option Found
 whole_search app token skip r =
-    or_next (at_entries app token (if skip then drop 1 r.entries else r.entries))
+    option_or (at_entries app token (if skip then drop 1 r.entries else r.entries))
     (at_environments app token (if skip && r.from_environment then drop 1 r.environments else r.environments))
 
 -- The first fit on a route. Self looks at the first entry alone. Self and Host never reach an environment.

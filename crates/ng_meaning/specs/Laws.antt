@@ -13,7 +13,15 @@ pub mod Pieces
 pub mod Regions
 pub mod Units
 pub mod Once
+pub mod OnPage
+pub mod Only
+pub mod Members
+pub mod Each
 pub mod Injection
+pub mod Above
+pub mod Ways
+pub mod Searches
+pub mod Visited
 pub mod Living
 pub mod Expressions
 pub mod Statements

@@ -8,7 +8,6 @@ use Rattle.ng_values.specs.Json.{json}
 use Rattle.ng_values.specs.View.{plain}
 use Rattle.ng_ast.specs.declared.App.{App}
 use Rattle.ng_ast.specs.declared.QueryKind.{QueryKind}
-use Rattle.ng_ast.specs.declared.QueryKind.TheVariants as query
 use Rattle.ng_ast.specs.declared.Member.{Member}
 use Rattle.ng_ast.specs.declared.MemberKind.{MemberKind}
 use Rattle.ng_ast.specs.declared.MemberKind.TheVariants as kind
@@ -20,7 +19,7 @@ use Rattle.ng_tree.specs.Names.{tokens, environments}
 use Rattle.ng_tree.specs.Texts.{path_text, site_text}
 use Rattle.ng_meaning.specs.Lists.{Text, look}
 use Rattle.ng_meaning.specs.World.{Held, held}
-use Rattle.ng_meaning.specs.Expressions.{or_null}
+use Rattle.ng_meaning.specs.Expressions.{or_null, gives_first}
 use Rattle.ng_meaning.specs.Places.{Trail, Outlines, path_of, instance_at, outlines}
 use Rattle.ng_meaning.specs.Tree.{Tree, State}
 use Rattle.ng_meaning.specs.Bindings.{Spot, PassFault, InView, TooManyNodes, TooDeep}
@@ -92,11 +91,9 @@ abbrev pub inject_line : App → Option Held → Member → MemberKind → Optio
 inject_line app h m (kind.Inject token flags) = Some (codes "inject " ++ m.name ++ codes " = " ++ item_text app (injected h m.name))
 inject_line app h m _ = None
 
--- the results that a query line has: of `viewchild` and `contentchild` the first alone
+-- the results that a query line has: all, or the first one
 abbrev pub reported : QueryKind → List Site → List Site
-reported query.ViewChild ats = take 1 ats
-reported query.ContentChild ats = take 1 ats
-reported _ ats = ats
+reported k ats = if gives_first k then take 1 ats else ats
 
 -- `query NAME =`, and then each site behind a space, with a comma between
 abbrev pub query_line : App → Tree → Site → Member → MemberKind → Option Text

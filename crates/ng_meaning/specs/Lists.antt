@@ -40,11 +40,6 @@ last [] = None
 last (a ∷ []) = Some a
 last (a ∷ b ∷ rest) = last (b ∷ rest)
 
--- the first of two that is there
-abbrev pub or_next : {A : Type 0} → Option A → Option A → Option A
-or_next (Some a) other = Some a
-or_next None other = other
-
 -- whether there are any items
 abbrev pub has_any : {A : Type 0} → List A → Bool
 has_any [] = false

@@ -1,5 +1,5 @@
 -- A run: the first pass, and then each event with the pass that follows it.
-use Rattle.std.specs.Prelude.{Bool, true, false, List, [], ◌∷◌, Option, Some, None, Ok, Err}
+use Rattle.std.specs.Prelude.{ℕ, Bool, true, false, List, [], ◌∷◌, Option, Some, None, Ok, Err}
 use Rattle.ng_ast.specs.declared.App.{App}
 use Rattle.ng_tree.specs.declared.PNode.{PNode}
 use Rattle.ng_meaning.specs.Places.{Trail}
@@ -9,11 +9,12 @@ use Rattle.ng_meaning.specs.Passes.{pass, Passed}
 use Rattle.ng_meaning.specs.Page.{page}
 use Rattle.ng_meaning.specs.Events.{Event, Outcome, handle, has_pass}
 
--- the first pass, or an event with the pass that followed it, if one did: what came of the event, the instances that the pass checked, the state that
--- is left, and its page
+-- the first pass, or an event with the pass that followed it, if one did: what came of the event, the instances that the pass checked, how many page
+-- nodes it made, the state that is left, and its page
 pub record Turn : Type 0 where
   pub outcome : Option Outcome
   pub checked : Option (List Trail)
+  pub made : ℕ
   pub state : State
   pub page : PNode
 
@@ -34,11 +35,11 @@ onto t r = record r { turns = t ∷ r.turns }
 module _ (app : App) (every : Bool) where
   -- an event that no pass followed: the state and the page stay
   abbrev pub without_pass : State → Outcome → Turn
-  without_pass z outcome = record { outcome = Some outcome; checked = None; state = z; page = page app z.tree }
+  without_pass z outcome = record { outcome = Some outcome; checked = None; made = 0; state = z; page = page app z.tree }
 
   -- what a pass leaves
   abbrev pub with_pass : Option Outcome → Passed → Turn
-  with_pass outcome p = record { outcome = outcome; checked = Some p.checked; state = p.state; page = page app p.state.tree }
+  with_pass outcome p = record { outcome = outcome; checked = Some p.checked; made = p.made; state = p.state; page = page app p.state.tree }
 
   -- a run that a pass ended
   abbrev pub stopped : Option Outcome → PassFault → Run

@@ -1,24 +1,28 @@
 //! Laws of the definitions.
 
-ghost use Rattle.std.specs.Prelude.{◌≡◌, List, Bool, true, None, Option, Ok, Err, if◌then◌else◌};
+ghost use Rattle.std.specs.Prelude.{◌≡◌, ◌⊎◌, ◌∷◌, ◌≤◌, ℕ, length, List, Bool, true, None, Option, Ok, Err, if◌then◌else◌};
 ghost use Rattle.ng_values.specs.declared.fault.Fault.{Fault};
 ghost use Rattle.ng_ast.specs.declared.App.{App};
 ghost use Rattle.ng_ast.specs.declared.Flag.{Flag};
 ghost use Rattle.ng_tree.specs.declared.Item.{Item};
+ghost use Rattle.ng_tree.specs.declared.NodeId.{NodeId};
+ghost use Rattle.ng_tree.specs.declared.NodeId.TheVariants as id;
 ghost use Rattle.ng_tree.specs.declared.Site.{Site};
 ghost use Rattle.ng_meaning.specs.Lists.{Text};
 ghost use Rattle.ng_meaning.specs.World.{World, Read, held, is_live};
-ghost use Rattle.ng_meaning.specs.Places.{Trail};
-ghost use Rattle.ng_meaning.specs.Injection.{provided, resolved};
+ghost use Rattle.ng_meaning.specs.Places.{Trail, Outline, Outlines, outlines};
+ghost use Rattle.ng_meaning.specs.Declared.{root};
+ghost use Rattle.ng_meaning.specs.Injection.{upwards, environments_from, route, first_fit, give, search, provided, resolved};
 ghost use Rattle.ng_meaning.specs.Tree.{Tree, State};
 ghost use Rattle.ng_meaning.specs.Passes.{lives, living, Passed, pass};
 ghost use Rattle.ng_meaning.specs.Events.{Event};
 ghost use Rattle.ng_meaning.specs.Runs.{Turn, run_with};
 ghost use Rattle.ng_meaning.specs.Page.{page};
 ghost use Rattle.ng_meaning.specs.Laws.Apart.{In, Apart};
-ghost use Rattle.ng_meaning.specs.Laws.Growing.{IsInOrder, ViewsCounted};
+ghost use Rattle.ng_meaning.specs.Laws.Growing.{paths, IsInOrder, ViewsCounted};
 ghost use Rattle.ng_meaning.specs.Laws.Pages.{node_ids};
-ghost use Rattle.ng_meaning.specs.Laws.Units.{ShowsSlotsOnce};
+ghost use Rattle.ng_meaning.specs.Laws.OnPage.{IsOnPage};
+ghost use Rattle.ng_meaning.specs.Laws.Units.{IsShown, ShowsSlotsOnce};
 ghost use Rattle.ng_meaning.specs.Printing.{escaped, escaped_value};
 
 /// Two different texts, or two different values of attributes, are never printed alike.
@@ -34,6 +38,13 @@ pub fn injection_goes_by_place()
         → (resolved app from token flags world).0 ≡ Ok i → provided app from token flags ≡ Ok i }
     ensures refused { (app : App) (from : Option Site) (token : Text) (flags : List Flag) (world : World) (f : Fault)
         → provided app from token flags ≡ Err f → resolved app from token flags world ≡ (Err f, world) }
+{}
+
+/// A search for a token is one step over the searches for what the step found: however far they go, none is cut off.
+pub fn searches_go_to_their_end()
+    ensures steps { (app : App) (making : List Site) (from : Option Site) (token : Text) (flags : List Flag)
+        → search app making from token flags ≡ give app (search app) token flags making (first_fit app token flags (route app from)) }
+    ensures environments { (app : App) (name : Text) (n : ℕ) → In root (upwards app n name) → upwards app n name ≡ environments_from app name }
 {}
 
 /// A pass keeps exactly the sites that live on: what is held of them stays, and of all others nothing.
@@ -53,9 +64,20 @@ pub fn paths_are_in_order()
         → In t (run_with app every events).turns → IsInOrder t.state.tree.views }
 {}
 
-/// No node stands twice on a page, where no two `ng-content`s that are live show the same slot of one instance.
-pub fn page_has_nodes_once()
-    ensures on_pages { (app : App) (tree : Tree) → ViewsCounted tree.views → ShowsSlotsOnce app tree → Apart (node_ids (page app tree)) }
-    ensures in_runs { (app : App) (every : Bool) (events : List Event) (t : Turn)
+/// Each view that a tree shows was visited by the pass that left it, and has at most 63 steps. So a page, for which
+/// no longer paths are drawn, misses none.
+pub fn shown_views_are_live()
+    ensures { (app : App) (every : Bool) (marks : List Trail) (z : State) (r : Passed) → pass app every marks z ≡ Ok r
+        → (p : Trail) (o : Outline) (outer : Outlines) → IsShown app r.state.tree p → outlines app p ≡ o ∷ outer
+        → In p (paths r.state.tree.views) × (length p ≤ 63) }
+{}
+
+/// A page has its root, and each element, host and text that is on it by what the views show, and no others.
+/// No node stands twice, where no two `ng-content`s that are live show the same slot of one instance.
+pub fn page_has_each_shown_node_once()
+    ensures each { (app : App) (tree : Tree) (i : NodeId) → IsOnPage app tree i → In i (node_ids (page app tree)) }
+    ensures others { (app : App) (tree : Tree) (i : NodeId) → In i (node_ids (page app tree)) → (i ≡ id.Root) ⊎ IsOnPage app tree i }
+    ensures once { (app : App) (tree : Tree) → ViewsCounted tree.views → ShowsSlotsOnce app tree → Apart (node_ids (page app tree)) }
+    ensures once_in_runs { (app : App) (every : Bool) (events : List Event) (t : Turn)
         → In t (run_with app every events).turns → ShowsSlotsOnce app t.state.tree → Apart (node_ids t.page) }
 {}

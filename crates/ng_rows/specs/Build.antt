@@ -15,6 +15,8 @@ use Rattle.ng_ast.specs.declared.Member.{Member}
 use Rattle.ng_ast.specs.declared.MemberKind.{MemberKind}
 use Rattle.ng_ast.specs.declared.Component.{Component}
 use Rattle.ng_ast.specs.declared.Service.{Service}
+use Rattle.ng_ast.specs.declared.Provider.{Provider}
+use Rattle.ng_ast.specs.declared.Environment.{Environment}
 use Rattle.ng_meaning.specs.Lists.{Text}
 use Rattle.ng_meaning.specs.Events.{Event, On, Call}
 use Rattle.ng_meaning.specs.Lines.{Wanted}
@@ -56,6 +58,10 @@ component place name chosen onpush members begins nodes =
 abbrev pub service : Place → Text → Bool → List Member → Service
 service place name root members = record { place = place; name = name; root = root; members = members }
 
+-- an environment: its name, the one that it stands under, and its providers
+abbrev pub environment : Place → Text → Option Text → List (Place × Provider) → Environment
+environment place name under provides = record { place = place; name = name; under = under; provides = provides }
+
 -- a click on the nth element of a tag
 abbrev pub click : Text → ℕ → Event
 click tag n = On (codes "click") tag n val.Null
@@ -75,3 +81,7 @@ reports = record { reports = true; traces = false }
 -- the instances too that each pass checked
 abbrev pub traces : Wanted
 traces = record { reports = false; traces = true }
+
+-- both: the instances that each pass checked, and after the page the live ones
+abbrev pub full : Wanted
+full = record { reports = true; traces = true }

@@ -6,3 +6,5 @@ pub mod Providers
 pub mod Checking
 pub mod Queries
 pub mod Bound
+pub mod Faults
+pub mod Outlets

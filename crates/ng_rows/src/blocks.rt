@@ -1,9 +1,10 @@
 //! Branches and rows.
 
-ghost use Rattle.std.specs.Prelude.{◌≡◌, [], ◌∷◌, true, false, codes};
+ghost use Rattle.std.specs.Prelude.{◌≡◌, [], ◌∷◌, map, true, false, codes};
 ghost use Rattle.ng_meaning.specs.Lines.{lines};
+ghost use Rattle.ng_meaning.specs.Runs.{run_due};
 ghost use Rattle.ng_rows.specs.Blocks.{toggle, rows, emptied};
-ghost use Rattle.ng_rows.specs.Build.{click, pages};
+ghost use Rattle.ng_rows.specs.Build.{click, pages, full};
 
 /// A branch that is chosen again begins anew: the component in it counts from 0.
 pub fn branch_begins_anew()
@@ -35,9 +36,37 @@ pub fn branch_begins_anew()
         ∷ codes "<r-r><u>x</u><c-c><b>0</b></c-c></r-r>"
         ∷ codes "end 3"
         ∷ [] }
+    ensures checked { lines toggle full false (click (codes "b") 1 ∷ click (codes "u") 1 ∷ click (codes "u") 1 ∷ [])
+        ≡ codes "check . R"
+        ∷ codes "check ./2?0/3 C"
+        ∷ codes "page 0"
+        ∷ codes "<r-r><u>x</u><c-c><b>0</b></c-c></r-r>"
+        ∷ codes "inst . R"
+        ∷ codes "inst ./2?0/3 C"
+        ∷ codes "event 1 ran"
+        ∷ codes "check . R"
+        ∷ codes "check ./2?0/3 C"
+        ∷ codes "page 1"
+        ∷ codes "<r-r><u>x</u><c-c><b>1</b></c-c></r-r>"
+        ∷ codes "inst . R"
+        ∷ codes "inst ./2?0/3 C"
+        ∷ codes "event 2 ran"
+        ∷ codes "check . R"
+        ∷ codes "page 2"
+        ∷ codes "<r-r><u>x</u></r-r>"
+        ∷ codes "inst . R"
+        ∷ codes "event 3 ran"
+        ∷ codes "check . R"
+        ∷ codes "check ./2?0/3 C"
+        ∷ codes "page 3"
+        ∷ codes "<r-r><u>x</u><c-c><b>0</b></c-c></r-r>"
+        ∷ codes "inst . R"
+        ∷ codes "inst ./2?0/3 C"
+        ∷ codes "end 3"
+        ∷ [] }
 {}
 
-/// A row keeps its component by its track value and its place among equal ones, wherever the row stands.
+/// A row keeps its component by its track value and its place among equal ones, wherever the row stands. Rows that only move make no nodes.
 pub fn rows_keep_their_state()
     ensures every { lines rows pages true (click (codes "b") 1 ∷ click (codes "b") 1 ∷ click (codes "b") 2 ∷ click (codes "b") 3 ∷ click (codes "u") 1 ∷ [])
         ≡ codes "page 0"
@@ -79,6 +108,74 @@ pub fn rows_keep_their_state()
         ∷ codes "<r-r><u>x</u><p>0b<c-c><b>1</b></c-c></p><p>1a<c-c><b>2</b></c-c></p></r-r>"
         ∷ codes "end 5"
         ∷ [] }
+    ensures checked { lines rows full false (click (codes "b") 1 ∷ click (codes "b") 1 ∷ click (codes "b") 2 ∷ click (codes "b") 3 ∷ click (codes "u") 1 ∷ [])
+        ≡ codes "check . R"
+        ∷ codes "check ./2[\"a\"]/5 C"
+        ∷ codes "check ./2[\"a\"#1]/5 C"
+        ∷ codes "check ./2[\"b\"]/5 C"
+        ∷ codes "page 0"
+        ∷ codes "<r-r><u>x</u><p>0a<c-c><b>0</b></c-c></p><p>1a<c-c><b>0</b></c-c></p><p>2b<c-c><b>0</b></c-c></p></r-r>"
+        ∷ codes "inst . R"
+        ∷ codes "inst ./2[\"a\"]/5 C"
+        ∷ codes "inst ./2[\"a\"#1]/5 C"
+        ∷ codes "inst ./2[\"b\"]/5 C"
+        ∷ codes "event 1 ran"
+        ∷ codes "check . R"
+        ∷ codes "check ./2[\"a\"]/5 C"
+        ∷ codes "check ./2[\"a\"#1]/5 C"
+        ∷ codes "check ./2[\"b\"]/5 C"
+        ∷ codes "page 1"
+        ∷ codes "<r-r><u>x</u><p>0a<c-c><b>1</b></c-c></p><p>1a<c-c><b>0</b></c-c></p><p>2b<c-c><b>0</b></c-c></p></r-r>"
+        ∷ codes "inst . R"
+        ∷ codes "inst ./2[\"a\"]/5 C"
+        ∷ codes "inst ./2[\"a\"#1]/5 C"
+        ∷ codes "inst ./2[\"b\"]/5 C"
+        ∷ codes "event 2 ran"
+        ∷ codes "check . R"
+        ∷ codes "check ./2[\"a\"]/5 C"
+        ∷ codes "check ./2[\"a\"#1]/5 C"
+        ∷ codes "check ./2[\"b\"]/5 C"
+        ∷ codes "page 2"
+        ∷ codes "<r-r><u>x</u><p>0a<c-c><b>2</b></c-c></p><p>1a<c-c><b>0</b></c-c></p><p>2b<c-c><b>0</b></c-c></p></r-r>"
+        ∷ codes "inst . R"
+        ∷ codes "inst ./2[\"a\"]/5 C"
+        ∷ codes "inst ./2[\"a\"#1]/5 C"
+        ∷ codes "inst ./2[\"b\"]/5 C"
+        ∷ codes "event 3 ran"
+        ∷ codes "check . R"
+        ∷ codes "check ./2[\"a\"]/5 C"
+        ∷ codes "check ./2[\"a\"#1]/5 C"
+        ∷ codes "check ./2[\"b\"]/5 C"
+        ∷ codes "page 3"
+        ∷ codes "<r-r><u>x</u><p>0a<c-c><b>2</b></c-c></p><p>1a<c-c><b>1</b></c-c></p><p>2b<c-c><b>0</b></c-c></p></r-r>"
+        ∷ codes "inst . R"
+        ∷ codes "inst ./2[\"a\"]/5 C"
+        ∷ codes "inst ./2[\"a\"#1]/5 C"
+        ∷ codes "inst ./2[\"b\"]/5 C"
+        ∷ codes "event 4 ran"
+        ∷ codes "check . R"
+        ∷ codes "check ./2[\"a\"]/5 C"
+        ∷ codes "check ./2[\"a\"#1]/5 C"
+        ∷ codes "check ./2[\"b\"]/5 C"
+        ∷ codes "page 4"
+        ∷ codes "<r-r><u>x</u><p>0a<c-c><b>2</b></c-c></p><p>1a<c-c><b>1</b></c-c></p><p>2b<c-c><b>1</b></c-c></p></r-r>"
+        ∷ codes "inst . R"
+        ∷ codes "inst ./2[\"a\"]/5 C"
+        ∷ codes "inst ./2[\"a\"#1]/5 C"
+        ∷ codes "inst ./2[\"b\"]/5 C"
+        ∷ codes "event 5 ran"
+        ∷ codes "check . R"
+        ∷ codes "check ./2[\"b\"]/5 C"
+        ∷ codes "check ./2[\"a\"]/5 C"
+        ∷ codes "page 5"
+        ∷ codes "<r-r><u>x</u><p>0b<c-c><b>1</b></c-c></p><p>1a<c-c><b>2</b></c-c></p></r-r>"
+        ∷ codes "inst . R"
+        ∷ codes "inst ./2[\"b\"]/5 C"
+        ∷ codes "inst ./2[\"a\"]/5 C"
+        ∷ codes "end 5"
+        ∷ [] }
+    ensures made { map (λ t. t.made) (run_due rows (click (codes "b") 1 ∷ click (codes "b") 1 ∷ click (codes "b") 2 ∷ click (codes "b") 3 ∷ click (codes "u") 1 ∷ [])).turns
+        ≡ 18 ∷ 0 ∷ 0 ∷ 0 ∷ 0 ∷ 0 ∷ [] }
 {}
 
 /// `@empty` stays as it is while the list has no rows, be it null or empty.
@@ -109,6 +206,34 @@ pub fn empty_is_kept()
         ∷ codes "event 3 ran"
         ∷ codes "page 3"
         ∷ codes "<r-r><u>a</u><u>b</u><i>7</i></r-r>"
+        ∷ codes "end 3"
+        ∷ [] }
+    ensures checked { lines emptied full false (click (codes "b") 1 ∷ click (codes "u") 1 ∷ click (codes "u") 2 ∷ [])
+        ≡ codes "check . R"
+        ∷ codes "check ./4?0/7 C"
+        ∷ codes "page 0"
+        ∷ codes "<r-r><u>a</u><u>b</u><c-c><b>0</b></c-c></r-r>"
+        ∷ codes "inst . R"
+        ∷ codes "inst ./4?0/7 C"
+        ∷ codes "event 1 ran"
+        ∷ codes "check . R"
+        ∷ codes "check ./4?0/7 C"
+        ∷ codes "page 1"
+        ∷ codes "<r-r><u>a</u><u>b</u><c-c><b>1</b></c-c></r-r>"
+        ∷ codes "inst . R"
+        ∷ codes "inst ./4?0/7 C"
+        ∷ codes "event 2 ran"
+        ∷ codes "check . R"
+        ∷ codes "check ./4?0/7 C"
+        ∷ codes "page 2"
+        ∷ codes "<r-r><u>a</u><u>b</u><c-c><b>1</b></c-c></r-r>"
+        ∷ codes "inst . R"
+        ∷ codes "inst ./4?0/7 C"
+        ∷ codes "event 3 ran"
+        ∷ codes "check . R"
+        ∷ codes "page 3"
+        ∷ codes "<r-r><u>a</u><u>b</u><i>7</i></r-r>"
+        ∷ codes "inst . R"
         ∷ codes "end 3"
         ∷ [] }
 {}

@@ -9,5 +9,7 @@ pub mod bound;
 pub mod checking;
 pub mod content;
 pub mod counter;
+pub mod faults;
+pub mod outlets;
 pub mod providers;
 pub mod queries;

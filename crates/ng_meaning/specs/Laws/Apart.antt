@@ -1,7 +1,7 @@
 -- Lists without repeats.
-use Rattle.std.specs.Prelude.{◌≡◌, ◌⊎◌, List, [], ◌∷◌, ◌++◌, map, refl}
+use Rattle.std.specs.Prelude.{◌≡◌, ◌⊎◌, suc, ◌≤◌, length, List, [], ◌∷◌, ◌++◌, map, refl}
 use Rattle.std.specs.List.{flat_map}
-use Rattle.std.proofs.Common.{inl, inr, subst}
+use Rattle.std.proofs.Common.{inl, inr, ap, sym, ◌∙◌, subst, arith}
 
 -- an item is in a list
 abbrev pub In : {A : Type 0} → A → List A → Type 0
@@ -59,3 +59,21 @@ given_by f x xs y (inr r) = (r.0, inr r.1, r.2)
 pub In-flat_map : {A B : Type 0} (f : A → List B) (xs : List A) (y : B) → In y (flat_map f xs) → (z : A) × In z xs × In y (f z)
 In-flat_map f [] y h = absurd h
 In-flat_map f (x ∷ xs) y h = given_by f x xs y (elim (In-append (f x) (flat_map f xs) y h) [ inl i ↦ inl i | inr i ↦ inr (In-flat_map f xs y i) ])
+
+-- ---- counting
+
+-- a list without one of its items
+without : {A : Type 0} (x : A) (ys : List A) → In x ys → (zs : List A) × (length ys ≡ suc (length zs)) × ((y : A) → In y ys → (y ≡ x) ⊎ In y zs)
+without x [] i = absurd i
+without x (y ∷ ys) (inl e) = (ys, refl, λ z j. elim j [ inl d ↦ inl (d ∙ sym e) | inr k ↦ inr k ])
+without x (y ∷ ys) (inr i) =
+    let r = without x ys i in
+    (y ∷ r.0, ap suc r.1, λ z j. elim j [ inl d ↦ inr (inl d) | inr k ↦ elim (r.2 z k) [ inl d ↦ inl d | inr l ↦ inr (inr l) ] ])
+
+-- Items of which none stands twice are no more than those of a list that has them all.
+pub no_more_than : {A : Type 0} (xs ys : List A) → Apart xs → ((x : A) → In x xs → In x ys) → length xs ≤ length ys
+no_more_than [] ys apart all = omega arith
+no_more_than (x ∷ xs) ys apart all =
+    let r = without x ys (all x (inl refl)) in
+    let fewer = no_more_than xs r.0 apart.1 (λ y i. elim (r.2 y (all y (inr i))) [ inl e ↦ absurd (apart.0 (subst (λ z. In z xs) e i)) | inr k ↦ k ]) in
+    omega (arith, r.1, fewer)

@@ -36,17 +36,17 @@ use Rattle.ng_meaning.specs.Laws.Units.{Leads, IsShown, ShowsSlot, IsContent, Sh
 
 -- ---- nodes of pages side by side
 
-all_ids-append : (xs ys : List PNode) → all_ids (xs ++ ys) ≡ all_ids xs ++ all_ids ys
+pub all_ids-append : (xs ys : List PNode) → all_ids (xs ++ ys) ≡ all_ids xs ++ all_ids ys
 all_ids-append xs ys = flat_map-append node_ids xs ys
 
-all_ids-flat_map : {B : Type 0} (f : B → List PNode) (xs : List B) → all_ids (flat_map f xs) ≡ flat_map (λ x. all_ids (f x)) xs
+pub all_ids-flat_map : {B : Type 0} (f : B → List PNode) (xs : List B) → all_ids (flat_map f xs) ≡ flat_map (λ x. all_ids (f x)) xs
 all_ids-flat_map f [] = refl
 all_ids-flat_map f (x ∷ xs) = all_ids-append (f x) (flat_map f xs) ∙ ap (λ ys. all_ids (f x) ++ ys) (all_ids-flat_map f xs)
 
-all_ids-one : (p : PNode) → all_ids (p ∷ []) ≡ node_ids p
+pub all_ids-one : (p : PNode) → all_ids (p ∷ []) ≡ node_ids p
 all_ids-one p = append-nil (node_ids p)
 
-nothing_of : {B : Type 0} (xs : List B) → all_ids (flat_map (λ x. []) xs) ≡ []
+pub nothing_of : {B : Type 0} (xs : List B) → all_ids (flat_map (λ x. []) xs) ≡ []
 nothing_of [] = refl
 nothing_of (x ∷ xs) = nothing_of xs
 
@@ -58,7 +58,7 @@ is_one_number j k None e d = cc
 is_one_number j k (Some m) e d = eqb-true j m e ∙ sym (eqb-true k m d)
 
 -- what is in front, where it is kept, or what follows
-kept_or_after : (b : Bool) (xs ys : List PNode) (i : NodeId) → In i (all_ids ((if b then xs else []) ++ ys)) → ((b ≡ true) × In i (all_ids xs)) ⊎ In i (all_ids ys)
+pub kept_or_after : (b : Bool) (xs ys : List PNode) (i : NodeId) → In i (all_ids ((if b then xs else []) ++ ys)) → ((b ≡ true) × In i (all_ids xs)) ⊎ In i (all_ids ys)
 kept_or_after true xs ys i h = elim (In-append (all_ids xs) (all_ids ys) i (subst (In i) (all_ids-append xs ys) h)) [ inl l ↦ inl (refl, l) | inr r ↦ inr r ]
 kept_or_after false xs ys i h = inr h
 
@@ -278,7 +278,7 @@ module _ (app : App) (tree : Tree) (counted : ViewsCounted tree.views) (once : S
 -- ---- all views
 
 -- The view at a path has that path.
-outlines-BeginsAt : (app : App) (p : Trail) → BeginsAt p (outlines app p)
+pub outlines-BeginsAt : (app : App) (p : Trail) → BeginsAt p (outlines app p)
 unfolding outlines
 outlines-BeginsAt app [] = root_begins app (root_component app)
 outlines-BeginsAt app (s ∷ p) = step_begins (outlines app p) (outlines-BeginsAt app p)
@@ -287,7 +287,7 @@ outlines-BeginsAt app (s ∷ p) = step_begins (outlines app p) (outlines-BeginsA
     step_begins [] b = tt
     step_begins (o ∷ outer) b = subst (λ x. BeginsAt (s ∷ x) (entered app s (o ∷ outer))) b (entered-BeginsAt app s o outer)
 
-entered_next : (app : App) (s : Step) (p : Trail) (os : Outlines) → outlines app p ≡ os → outlines app (s ∷ p) ≡ entered app s os
+pub entered_next : (app : App) (s : Step) (p : Trail) (os : Outlines) → outlines app p ≡ os → outlines app (s ∷ p) ≡ entered app s os
 unfolding outlines
 entered_next app s p os e = ap (entered app s) e
 

@@ -73,3 +73,24 @@ views_shown-AreSteps app o outer n (For head nodes empty) (RowList rows) h = for
 views_shown-AreSteps app o outer n (NgContainer attrs nodes) (OutletValue (Some t) w) h = one_step n (step.Outlet n t) refl
 views_shown-AreSteps app o outer n (NgContent attrs nodes) value h = fallback_steps n nodes (is_filled app o attrs)
 views_shown-AreSteps app o outer n f value h = no_steps n
+
+-- ---- the same of the steps alone, where the rows may be any
+
+rows_go : (n : ℕ) (head : ForHead) (total i : ℕ) (rows : List Row) (x : Step) → In x (steps (rows_shown n head total i rows)) → GoesInto n x
+rows_go n head total i rows x j = let q = rows_from_in n head total i rows x j in subst (GoesInto n) (sym q.2) refl
+
+for_go : (n : ℕ) (head : ForHead) (empty : Branches) (rows : List Row) (x : Step) → In x (steps (for_shown n head empty rows)) → GoesInto n x
+for_go n head no_branches [] x j = absurd j
+for_go n head (branch test name nodes bs) [] x j = (one_step n (step.Branch n 0) refl).0 x j
+for_go n head no_branches (r ∷ rows) x j = rows_go n head _ 0 (r ∷ rows) x j
+for_go n head (branch test name nodes bs) (r ∷ rows) x j = rows_go n head _ 0 (r ∷ rows) x j
+
+-- The views that a node shows are entered at that node.
+pub views_shown-GoInto : (app : App) (o : Outline) (outer : Outlines) (n : ℕ) (f : Form) (value : NodeValue) (x : Step) → In x (steps (views_shown app o outer n f value)) → GoesInto n x
+unfolding views_shown
+views_shown-GoInto app o outer n (If bs) (Choice (Some c)) x j = (one_step n (step.Branch n c.0) refl).0 x j
+views_shown-GoInto app o outer n (Switch e bs) (Choice (Some c)) x j = (one_step n (step.Branch n c.0) refl).0 x j
+views_shown-GoInto app o outer n (For head nodes empty) (RowList rows) x j = for_go n head empty rows x j
+views_shown-GoInto app o outer n (NgContainer attrs nodes) (OutletValue (Some t) w) x j = (one_step n (step.Outlet n t) refl).0 x j
+views_shown-GoInto app o outer n (NgContent attrs nodes) value x j = (fallback_steps n nodes (is_filled app o attrs)).0 x j
+views_shown-GoInto app o outer n f value x j = absurd j

@@ -9,3 +9,7 @@ returns-clause-every c = refl
 pub returns-clause-due : goal.returns-clause-due
 unfolding everything
 returns-clause-due c = refl
+
+pub returns-clause-checked : goal.returns-clause-checked
+unfolding everything
+returns-clause-checked c = refl

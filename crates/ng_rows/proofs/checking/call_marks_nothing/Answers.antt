@@ -9,3 +9,11 @@ returns-clause-every c = refl
 pub returns-clause-due : goal.returns-clause-due
 unfolding everything
 returns-clause-due c = refl
+
+pub returns-clause-checked : goal.returns-clause-checked
+unfolding everything
+returns-clause-checked c = refl
+
+pub returns-clause-checked_every : goal.returns-clause-checked_every
+unfolding everything
+returns-clause-checked_every c = refl

@@ -2,6 +2,10 @@ use Rattle.std.proofs.Common.{refl}
 use Rattle.ng_meaning.specs.Compute.{everything}
 use Rattle.ng_rows.proofs.counter.clicks_are_counted.Goals as goal
 
-pub returns : goal.returns
+pub returns-clause-every : goal.returns-clause-every
 unfolding everything
-returns c = refl
+returns-clause-every c = refl
+
+pub returns-clause-due : goal.returns-clause-due
+unfolding everything
+returns-clause-due c = refl

@@ -13,3 +13,7 @@ returns-clause-due c = refl
 pub returns-clause-report : goal.returns-clause-report
 unfolding everything
 returns-clause-report c = refl
+
+pub returns-clause-checked : goal.returns-clause-checked
+unfolding everything
+returns-clause-checked c = refl
