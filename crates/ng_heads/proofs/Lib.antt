@@ -1,0 +1,16 @@
+pub mod Texts
+pub mod Names
+pub mod After
+pub mod HeadLaws
+pub mod ForLaws
+pub mod ForSteps
+pub mod PartFronts
+pub mod Cursor
+pub mod Closing
+pub mod FrontLaws
+pub mod TestLaws
+pub mod RowLaws
+pub mod ExtraLaws
+pub mod BlockLaws
+pub mod LetLaws
+pub mod Public

@@ -1,0 +1,12 @@
+pub mod Fits
+pub mod Runs
+pub mod Steps
+pub mod Closes
+pub mod Brackets
+pub mod Fronts
+pub mod Tests
+pub mod Fors
+pub mod Blocks
+pub mod Lets
+pub mod Answers
+pub mod Parts
