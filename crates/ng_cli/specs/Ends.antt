@@ -6,6 +6,8 @@ use Rattle.ng_cli.specs.declared.inputs.Stop.{Stop}
 use Rattle.ng_cli.specs.declared.inputs.Stop.TheVariants as stop
 use Rattle.ng_cli.specs.declared.status.Status.{Status}
 use Rattle.ng_cli.specs.declared.status.Status.TheVariants as status
+use Rattle.ng_words.specs.declared.reading.Refused.{Refused}
+use Rattle.ng_words.specs.declared.reading.Refused.TheVariants as refused
 use Rattle.ng_cli.specs.Words.{Files, files_of}
 use Rattle.ng_cli.specs.Allowed.{Told, AreTold}
 use Rattle.ng_cli.specs.Causes.{Wrote, WrotePart, WroteAllowed, WroteFront, FetchFailed}
@@ -14,6 +16,11 @@ use Rattle.ng_cli.specs.Steps.{line_of}
 -- The files that the words name, as far as the order of reading comes to them, are told.
 abbrev pub AllTold : List Text → Told → Type 0
 AllTold words told = (files : Files) → files_of words ≡ Some files → AreTold files told
+
+-- The words ask for nothing that can be done, or memory ran out.
+abbrev pub NamesNone : List Text → Refused → Type 0
+NamesNone words refused.Words = files_of words ≡ None
+NamesNone words refused.Memory = Unit {0}
 
 -- A text was to be written, and then the call was to end so.
 abbrev pub PutEnds : Status → Text → Option Text → Option Text → ℕ → ℕ → Status → Type 0

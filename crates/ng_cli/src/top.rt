@@ -20,6 +20,7 @@ use ng_ast::App;
 use ng_outside::{Shelf, Sink};
 use ng_update::FlatEngine;
 use ng_values::NgText;
+use ng_words::Refused;
 use std::alloc::Global;
 
 // What is written where the words ask for nothing that is there.
@@ -95,15 +96,16 @@ fn run_files<H: Shelf, K: Sink>(
 fn answer<H: Shelf, K: Sink>(alloc: Global, words: &[String], shelf: &mut H, sink: &mut K) -> Status
     ensures { Ends (texts words.now) (H.told shelf.old) (H.faults shelf.old) (H.faults shelf.new) (K.taken sink.old) (K.taken sink.new) (K.faults sink.old) (K.faults sink.new) result }
 {
-    match file_names(words) {
-        Some((app, events)) => run_files(alloc, app, events, shelf, sink),
-        None => put_end(sink, USAGE.as_bytes(), Status::Usage),
+    match file_names(alloc, words) {
+        Ok((app, events)) => run_files(alloc, app, events, shelf, sink),
+        Err(Refused::Words) => put_end(sink, USAGE.as_bytes(), Status::Usage),
+        Err(Refused::Memory) => Status::NoMemory,
     }
 }
 
-/// Does what the words ask for, which don't contain the program's name, and answers the exit status. In this stage the
-/// words are `run --every APP EVENTS`, which fetches both files from the shelf and puts the page after every event into
-/// the sink.
+/// Does what the words ask for, which don't contain the program's name, and answers the exit status. They are read with
+/// `clap`, and `run --every APP EVENTS` is what can be done by now: it fetches both files from the shelf and puts the page
+/// after every event into the sink.
 ///
 /// | status | when |
 /// |---|---|
