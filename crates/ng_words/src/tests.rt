@@ -18,19 +18,28 @@ fn words(alloc: Global, text: &str) -> Result<Vec<String>, Fail> {
 }
 
 #[test]
-fn reads_orders(rt: HostRuntime) -> Result<(), Fail> {
-    let alloc = rt.alloc();
-    let run = words(alloc, "run --every a.ng --trace b.json")?;
+fn reads_a_run(rt: HostRuntime) -> Result<(), Fail> {
+    let words = words(rt.alloc(), "run --every a.ng --trace b.json")?;
     let flags = Flags {
         every: true,
         trace: true,
         ..PLAIN
     };
-    assert!(rt; read_words(alloc, &run) == Ok(Order::Run(flags, "a.ng", "b.json")));
-    let check = words(alloc, "check -- --every")?;
-    assert!(rt; read_words(alloc, &check) == Ok(Order::Check("--every")));
-    let compile = words(alloc, "compile a.ng")?;
-    assert!(rt; read_words(alloc, &compile) == Ok(Order::Compile("a.ng")));
+    assert!(rt; read_words(rt.alloc(), &words) == Ok(Order::Run(flags, "a.ng", "b.json")));
+    Ok(())
+}
+
+#[test]
+fn reads_a_check(rt: HostRuntime) -> Result<(), Fail> {
+    let words = words(rt.alloc(), "check -- --every")?;
+    assert!(rt; read_words(rt.alloc(), &words) == Ok(Order::Check("--every")));
+    Ok(())
+}
+
+#[test]
+fn reads_compile(rt: HostRuntime) -> Result<(), Fail> {
+    let words = words(rt.alloc(), "compile a.ng")?;
+    assert!(rt; read_words(rt.alloc(), &words) == Ok(Order::Compile("a.ng")));
     Ok(())
 }
 
