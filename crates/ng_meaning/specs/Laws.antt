@@ -28,3 +28,15 @@ pub mod Statements
 pub mod Templates
 pub mod Outlets
 pub mod Pages
+pub mod Live
+pub mod Leads
+pub mod Tails
+pub mod Standing
+pub mod Met
+pub mod LiveOnly
+pub mod LiveEach
+pub mod Listed
+pub mod Deeper
+pub mod Slots
+pub mod Hosts
+pub mod SlotsOnce

@@ -1,29 +1,43 @@
 //! Laws of the definitions.
 
-ghost use Rattle.std.specs.Prelude.{◌≡◌, ◌⊎◌, ◌∷◌, ◌≤◌, ℕ, length, List, Bool, true, None, Option, Ok, Err, if◌then◌else◌};
+ghost use Rattle.std.specs.Prelude.{◌≡◌, ◌⊎◌, ◌↔◌, ◌∷◌, ◌+◌, ◌≤◌, ℕ, length, List, [], Bool, true, None, Option, Ok, Err, if◌then◌else◌};
 ghost use Rattle.ng_values.specs.declared.fault.Fault.{Fault};
 ghost use Rattle.ng_ast.specs.declared.App.{App};
+ghost use Rattle.ng_ast.specs.declared.Expr.{Expr, out-Expr};
 ghost use Rattle.ng_ast.specs.declared.Flag.{Flag};
+ghost use Rattle.ng_ast.specs.declared.OutletForm.{OutletForm, out-OutletForm};
+ghost use Rattle.ng_ast.specs.declared.Stmt.{Stmt, out-Stmt, size-Stmt};
+ghost use Rattle.ng_ast.specs.declared.TNode.{TNode, out-TNode};
 ghost use Rattle.ng_tree.specs.declared.Item.{Item};
 ghost use Rattle.ng_tree.specs.declared.NodeId.{NodeId};
 ghost use Rattle.ng_tree.specs.declared.NodeId.TheVariants as id;
+ghost use Rattle.ng_tree.specs.declared.PNode.{PNode, out-PNode};
 ghost use Rattle.ng_tree.specs.declared.Site.{Site};
+ghost use Rattle.ng_meaning.specs.Steps.{pure};
+ghost use Rattle.ng_meaning.specs.Levels.{whole};
 ghost use Rattle.ng_meaning.specs.Lists.{Text};
 ghost use Rattle.ng_meaning.specs.World.{World, Read, held, is_live};
+ghost use Rattle.ng_meaning.specs.Expressions.{Bodies, mean_chain, mean_level};
+ghost use Rattle.ng_meaning.specs.Template.{Node, nodes_of, form_from, form_layer};
 ghost use Rattle.ng_meaning.specs.Places.{Trail, Outline, Outlines, outlines};
 ghost use Rattle.ng_meaning.specs.Declared.{root};
+ghost use Rattle.ng_meaning.specs.Init.{init_layer};
 ghost use Rattle.ng_meaning.specs.Injection.{upwards, environments_from, route, first_fit, give, search, provided, resolved};
 ghost use Rattle.ng_meaning.specs.Tree.{Tree, State};
+ghost use Rattle.ng_meaning.specs.Bindings.{outlet_layer, outlet_shown};
 ghost use Rattle.ng_meaning.specs.Passes.{lives, living, Passed, pass};
-ghost use Rattle.ng_meaning.specs.Events.{Event};
+ghost use Rattle.ng_meaning.specs.Events.{Event, Runner, act_layer, act, elements_layer, elements};
 ghost use Rattle.ng_meaning.specs.Runs.{Turn, run_with};
-ghost use Rattle.ng_meaning.specs.Page.{page};
+ghost use Rattle.ng_meaning.specs.Page.{page_nodes, outlet_views, draw, draw_root, page, outlets_met};
+ghost use Rattle.ng_meaning.specs.Queries.{Live, live_within, all_live};
 ghost use Rattle.ng_meaning.specs.Laws.Apart.{In, Apart};
 ghost use Rattle.ng_meaning.specs.Laws.Growing.{paths, IsInOrder, ViewsCounted};
 ghost use Rattle.ng_meaning.specs.Laws.Pages.{node_ids};
 ghost use Rattle.ng_meaning.specs.Laws.OnPage.{IsOnPage};
 ghost use Rattle.ng_meaning.specs.Laws.Units.{IsShown, ShowsSlotsOnce};
-ghost use Rattle.ng_meaning.specs.Printing.{escaped, escaped_value};
+ghost use Rattle.ng_meaning.specs.Laws.Live.{IsElement, IsLive};
+ghost use Rattle.ng_meaning.specs.Laws.Slots.{TemplatesHaveSlotsOnce};
+ghost use Rattle.ng_meaning.specs.Printing.{escaped, escaped_value, html_layer, html};
 
 /// Two different texts, or two different values of attributes, are never printed alike.
 pub fn printing_tells_texts_apart()
@@ -70,6 +84,57 @@ pub fn shown_views_are_live()
     ensures { (app : App) (every : Bool) (marks : List Trail) (z : State) (r : Passed) → pass app every marks z ≡ Ok r
         → (p : Trail) (o : Outline) (outer : Outlines) → IsShown app r.state.tree p → outlines app p ≡ o ∷ outer
         → In p (paths r.state.tree.views) × (length p ≤ 63) }
+{}
+
+/// Each view that is live in the tree of a pass is one that the tree shows: it has no others. The tree that the pass
+/// began with has its rows counted, as every tree has that a pass left.
+pub fn live_views_are_shown()
+    ensures { (app : App) (every : Bool) (marks : List Trail) (z : State) (r : Passed) → ViewsCounted z.tree.views → pass app every marks z ≡ Ok r
+        → (p : Trail) → In p (paths r.state.tree.views) → IsShown app r.state.tree p }
+{}
+
+/// The list of live nodes, in which queries search and which orders the report, has exactly the elements and hosts
+/// that stand in the views that the tree shows, each with the elements and hosts of its template that it stands in.
+pub fn live_elements_are_listed()
+    ensures in_passes { (app : App) (every : Bool) (marks : List Trail) (z : State) (r : Passed) → ViewsCounted z.tree.views → pass app every marks z ≡ Ok r
+        → (q : Live) → In q (all_live app r.state.tree) ↔ IsLive app r.state.tree q }
+    ensures in_runs { (app : App) (every : Bool) (events : List Event) (t : Turn) → In t (run_with app every events).turns
+        → (q : Live) → In q (all_live app t.state.tree) ↔ IsLive app t.state.tree q }
+    ensures each_node { (app : App) (tree : Tree) (p : Trail) (o : Outline) (outer : Outlines) (n : Node) → IsShown app tree p → outlines app p ≡ o ∷ outer
+        → In n (nodes_of o.nodes) → IsElement n.form → (q : Live) × IsLive app tree q × (q.view ≡ p) × (q.number ≡ n.number) × (q.form ≡ n.form) }
+{}
+
+/// After a pass a page, the outlets that are met in it and the list of live nodes are the same with any more levels than 64.
+pub fn levels_are_enough()
+    ensures drawn { (app : App) (every : Bool) (marks : List Trail) (z : State) (r : Passed) → pass app every marks z ≡ Ok r
+        → (more : ℕ) → draw app r.state.tree page_nodes (64 + more) (outlines app []) (λ k. []) ≡ draw_root app r.state.tree page_nodes }
+    ensures met { (app : App) (every : Bool) (marks : List Trail) (z : State) (r : Passed) → pass app every marks z ≡ Ok r
+        → (more : ℕ) → draw app r.state.tree outlet_views (64 + more) (outlines app []) (λ k. []) ≡ outlets_met app r.state.tree }
+    ensures listed { (app : App) (every : Bool) (marks : List Trail) (z : State) (r : Passed) → ViewsCounted z.tree.views → pass app every marks z ≡ Ok r
+        → (more : ℕ) → live_within app r.state.tree (64 + more) (outlines app []) [] ≡ all_live app r.state.tree }
+{}
+
+/// What is said of syntax trees and pages by their size is one level over what is said of what is inside: however
+/// deep they are, nothing is cut off.
+pub fn recursions_go_to_their_end()
+    ensures expressions { (bodies : Bodies) (e : Expr) → mean_chain bodies e ≡ mean_level bodies (mean_chain bodies) (out-Expr e) }
+    ensures statements { (app : App) (tree : Tree) (left : ℕ) (runner : Runner) (s : Stmt)
+        → act app tree left runner s ≡ act_layer app tree left runner (act app tree left runner) (out-Stmt s) }
+    ensures inits { (app : App) (at : Site) (s : Stmt)
+        → whole out-Stmt size-Stmt (pure tt) (init_layer app at) s ≡ init_layer app at (whole out-Stmt size-Stmt (pure tt) (init_layer app at)) (out-Stmt s) }
+    ensures templates { (app : App) (t : TNode) → form_from app t ≡ form_layer app (form_from app) (out-TNode t) }
+    ensures outlets { (os : Outlines) (o : OutletForm) → outlet_shown os o ≡ outlet_layer os (outlet_shown os) (out-OutletForm o) }
+    ensures targets { (p : PNode) → elements p ≡ elements_layer elements (out-PNode p) }
+    ensures printing { (p : PNode) → html p ≡ html_layer html (out-PNode p) }
+{}
+
+/// No two `ng-content`s that are live show the same slot of one instance, and no page has a node twice, where this is
+/// so of the templates: no `ng-content` stands in a `@for` or an `ng-template`, and two of one slot stand in different
+/// branches of one `@if` or `@switch`.
+pub fn slots_are_shown_once()
+    ensures slots { (app : App) (tree : Tree) → TemplatesHaveSlotsOnce app → ShowsSlotsOnce app tree }
+    ensures pages { (app : App) (every : Bool) (events : List Event) (t : Turn)
+        → In t (run_with app every events).turns → TemplatesHaveSlotsOnce app → Apart (node_ids t.page) }
 {}
 
 /// A page has its root, and each element, host and text that is on it by what the views show, and no others.

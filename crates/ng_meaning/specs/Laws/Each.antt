@@ -32,7 +32,7 @@ use Rattle.ng_meaning.specs.Laws.Members.{IsNode, outermost_is, inner_is, node_a
 -- ---- the instance of a view
 
 -- the path of the instance whose template has the view at a path
-abbrev unit_of : Trail → Trail
+abbrev pub unit_of : Trail → Trail
 unit_of [] = []
 unit_of (step.Child n ∷ p) = step.Child n ∷ p
 unit_of (step.Branch n k ∷ p) = unit_of p
@@ -48,7 +48,7 @@ module _ (app : App) where
   inner_unit n s g u [] h = tt
   inner_unit n s g u (o ∷ outer) h = entered-HasUnit app n s g u o outer h
 
-  outlines-HasUnit : (p : Trail) → HasUnit (unit_of p) (outlines app p)
+  pub outlines-HasUnit : (p : Trail) → HasUnit (unit_of p) (outlines app p)
   unfolding outlines
   outlines-HasUnit [] = root-HasUnit app
   outlines-HasUnit (step.Child n ∷ p) = child_unit n p (outlines app p) (outlines-BeginsAt app p)

@@ -1,4 +1,4 @@
--- Each view that a tree shows is live in it, and has at most 63 steps.
+-- Each view that a tree shows is live in it, and has at most 63 steps; and the tree shows each view that is live in it.
 use Rattle.std.specs.Prelude.{◌≡◌, ◌⊎◌, ℕ, zero, suc, ◌+◌, ◌≤◌, Bool, true, false, cond, if◌then◌else◌, List, [], ◌∷◌, ◌++◌, length, Option, Some, None, Result, Ok, Err, is_none, refl}
 use Rattle.std.specs.List.{flat_map}
 use Rattle.std.specs.Map.{lookup}
@@ -19,8 +19,8 @@ use Rattle.ng_meaning.specs.Places.{Trail, Outline, Outlines, instance_at, host_
 use Rattle.ng_meaning.specs.Tree.{Tree, State, View, view_at, value_of}
 use Rattle.ng_meaning.specs.Bindings.{Pass, PassFault, Passing, Spot, spot, Visit, Shown, views_shown}
 use Rattle.ng_meaning.specs.Passes.{make, own_spot, bear_instance, grow_root, begun, Passed, passed, ended, pass, make_node, start, set_inputs, inputs, is_due, enter, turn, turn_in, turn_host, visit_in, visit_node, view_of, visit_view, grow}
-use Rattle.ng_meaning.specs.Laws.Apart.{In, In-append, In-left, In-right, In-map}
-use Rattle.ng_meaning.specs.Laws.Growing.{paths, host_steps, root_begins}
+use Rattle.ng_meaning.specs.Laws.Apart.{In, Apart, In-append, In-left, In-right, In-map, In-flat_map}
+use Rattle.ng_meaning.specs.Laws.Growing.{paths, host_steps, root_begins, ViewsCounted, pass-IsInOrder}
 use Rattle.ng_meaning.specs.Laws.Keeping.{Keeps, make_nodes-Keeps, make_root-Keeps, view_of-Keeps, set_inputs-Keeps, start-Keeps, enter-Keeps}
 use Rattle.ng_meaning.specs.Laws.Living.{left_by}
 use Rattle.ng_meaning.specs.Laws.Once.{outlines-BeginsAt, entered_next}
@@ -54,6 +54,15 @@ module _ (app : App) where
   abbrev ShowsStep : View → Outline → Outlines → Step → Type 0
   ShowsStep w o outer s = (q : Node) × In q (nodes_of o.nodes) × (In s (host_steps q q.form) ⊎ In s (steps (views_shown app o outer q.number q.form (value_of (Some w) q.number))))
 
+  -- a view is one that another of some views shows
+  abbrev ComesFrom : List (Trail × View) → Trail → Type 0
+  ComesFrom vs [] = ⊥
+  ComesFrom vs (s ∷ p) = (w : View) × (o : Outline) × (outer : Outlines) × In (p, w) vs × (outlines app p ≡ o ∷ outer) × ShowsStep w o outer s
+
+  comes-wider : (vs ws : List (Trail × View)) → ((v : Trail × View) → In v vs → In v ws) → (q : Trail) → ComesFrom vs q → ComesFrom ws q
+  comes-wider vs ws h [] c = absurd c
+  comes-wider vs ws h (s ∷ p) c = (c.0, c.1, c.2, h (p, c.0) c.3, c.4, c.5)
+
   -- each view that a view shows is among some
   abbrev ShowsAmong : List Trail → Trail × View → Type 0
   ShowsAmong known v = (o : Outline) (outer : Outlines) → outlines app v.0 ≡ o ∷ outer → (s : Step) → ShowsStep v.1 o outer s → IsThere (entered app s (o ∷ outer)) → In (s ∷ v.0) known
@@ -84,28 +93,30 @@ module _ (app : App) where
 
   -- ---- views that are added
 
-  -- views are added, each with all that it shows, and among them those to which some steps from a view lead
+  -- Views are added, each with all that it shows, and among them those to which some steps from a view lead. Each is one of these, or one that another shows.
   record Led (p : Trail) (os : Outlines) (ss : List Step) (before after : List (Trail × View)) : Type 0 where
     more : List (Trail × View)
     is : after ≡ before ++ more
     shows : AllShow (paths more) more
     short : AreShort more
     leads : (s : Step) → In s ss → IsThere (entered app s os) → In (s ∷ p) (paths more)
+    comes : (q : Trail) → In q (paths more) → ((s : Step) × In s ss × (q ≡ s ∷ p)) ⊎ ComesFrom more q
 
-  -- views are added, each with all that it shows, and the one at a path among them
+  -- Views are added, each with all that it shows, and the one at a path among them. Each other one is one that another shows.
   record Whole (p : Trail) (before after : List (Trail × View)) : Type 0 where
     more : List (Trail × View)
     is : after ≡ before ++ more
     shows : AllShow (paths more) more
     short : AreShort more
     itself : In p (paths more)
+    comes : (q : Trail) → In q (paths more) → (q ≡ p) ⊎ ComesFrom more q
 
   none-added : (xs : List (Trail × View)) → xs ≡ xs ++ []
   none-added [] = refl
   none-added (x ∷ xs) = ap (λ ys. x ∷ ys) (none-added xs)
 
   nothing_led : (p : Trail) (os : Outlines) (ss : List Step) (views : List (Trail × View)) → ((s : Step) → In s ss → IsThere (entered app s os) → ⊥) → Led p os ss views views
-  nothing_led p os ss views h = record { more = []; is = none-added views; shows = tt; short = tt; leads = λ s i there. absurd (h s i there) }
+  nothing_led p os ss views h = record { more = []; is = none-added views; shows = tt; short = tt; leads = λ s i there. absurd (h s i there); comes = λ q i. absurd i }
 
   led_then : (p : Trail) (os : Outlines) (ss rs : List Step) (x y z : List (Trail × View)) → Led p os ss x y → Led p os rs y z → Led p os (ss ++ rs) x z
   led_then p os ss rs x y z a b =
@@ -119,7 +130,19 @@ module _ (app : App) where
           | inl j ↦ subst (In (s ∷ p)) (sym same) (In-left (paths a.more) (paths b.more) (s ∷ p) (a.leads s j there))
           | inr j ↦ subst (In (s ∷ p)) (sym same) (In-right (paths a.more) (paths b.more) (s ∷ p) (b.leads s j there))
         ];
+        comes = λ q i. elim (In-append (paths a.more) (paths b.more) q (subst (In q) same i)) [
+          | inl j ↦ first q (a.comes q j)
+          | inr j ↦ second q (b.comes q j)
+        ];
       }
+    where
+      first : (q : Trail) → ((s : Step) × In s ss × (q ≡ s ∷ p)) ⊎ ComesFrom a.more q → ((s : Step) × In s (ss ++ rs) × (q ≡ s ∷ p)) ⊎ ComesFrom (a.more ++ b.more) q
+      first q (inl h) = inl (h.0, In-left ss rs h.0 h.1, h.2)
+      first q (inr c) = inr (comes-wider a.more (a.more ++ b.more) (λ v i. In-left a.more b.more v i) q c)
+
+      second : (q : Trail) → ((s : Step) × In s rs × (q ≡ s ∷ p)) ⊎ ComesFrom b.more q → ((s : Step) × In s (ss ++ rs) × (q ≡ s ∷ p)) ⊎ ComesFrom (a.more ++ b.more) q
+      second q (inl h) = inl (h.0, In-right ss rs h.0 h.1, h.2)
+      second q (inr c) = inr (comes-wider b.more (a.more ++ b.more) (λ v i. In-right a.more b.more v i) q c)
 
   whole_led : (p : Trail) (os : Outlines) (s : Step) (x y : List (Trail × View)) → Whole (s ∷ p) x y → Led p os (s ∷ []) x y
   whole_led p os s x y g = record {
@@ -128,6 +151,7 @@ module _ (app : App) where
     shows = g.shows;
     short = g.short;
     leads = λ r i there. elim i [ inl e ↦ subst (λ z. In (z ∷ p) (paths g.more)) (sym e) g.itself | inr none ↦ absurd none ];
+    comes = λ q i. elim (g.comes q i) [ inl e ↦ inl (s, inl refl, e) | inr c ↦ inr c ];
   }
 
   -- a step of a pass that ends well adds such views
@@ -270,6 +294,22 @@ module _ (app : App) where
               In-left (flat_map (view_steps w) qs) (flat_map (λ q. host_steps q q.form) qs) s
               (In-flat (view_steps w) qs shows.0 s shows.1 (In-flat (λ x. x.0 ∷ []) bs b.0 s b.1 (inl b.2)))
 
+      -- and each of all is one that the view shows
+      step_shown : (w : View) (s : Step) → In s (all_steps w) → ShowsStep w v.at v.outer s
+      step_shown w s i = either (In-append (flat_map (view_steps w) qs) (flat_map (λ q. host_steps q q.form) qs) s i)
+        where
+          qs : List Node
+          qs = nodes_of v.at.nodes
+
+          one_of : (bs : List Shown) → In s (flat_map (λ b. b.0 ∷ []) bs) → In s (steps bs)
+          one_of [] j = absurd j
+          one_of (b ∷ bs) (inl e) = inl e
+          one_of (b ∷ bs) (inr j) = inr (one_of bs j)
+
+          either : In s (flat_map (view_steps w) qs) ⊎ In s (flat_map (λ q. host_steps q q.form) qs) → ShowsStep w v.at v.outer s
+          either (inl j) = let r = In-flat_map (view_steps w) qs s j in (r.0, r.1, inr (one_of (views_shown app v.at v.outer r.0.number r.0.form (value_of (Some w) r.0.number)) r.2))
+          either (inr j) = let r = In-flat_map (λ q. host_steps q q.form) qs s j in (r.0, r.1, inl r.2)
+
       -- the view with those inside of it
       with_itself : (w : View) (before after : List (Trail × View)) → Led v.at.path (v.at ∷ v.outer) (all_steps w) (before ++ (v.at.path, w) ∷ []) after → Whole v.at.path before after
       with_itself w before after a = record {
@@ -278,8 +318,13 @@ module _ (app : App) where
         shows = (own, show-wider a.more (paths a.more) (v.at.path ∷ paths a.more) (λ x i. inr i) a.shows);
         short = (omega (arith, depth), a.short);
         itself = inl refl;
+        comes = λ q i. elim i [ inl e ↦ inl e | inr j ↦ inr (inside q (a.comes q j)) ];
       }
         where
+          inside : (q : Trail) → ((s : Step) × In s (all_steps w) × (q ≡ s ∷ v.at.path)) ⊎ ComesFrom a.more q → ComesFrom ((v.at.path, w) ∷ a.more) q
+          inside q (inl h) = subst (ComesFrom ((v.at.path, w) ∷ a.more)) (sym h.2) (w, v.at, v.outer, inl refl, here, step_shown w h.0 h.1)
+          inside q (inr c) = comes-wider a.more ((v.at.path, w) ∷ a.more) (λ x i. inr i) q c
+
           own : ShowsAmong (v.at.path ∷ paths a.more) (v.at.path, w)
           own o outer e s shows there =
               let same : v.at ∷ v.outer ≡ o ∷ outer = sym here ∙ e in
@@ -345,15 +390,29 @@ module _ (app : App) where
             show-In tree.views (paths tree.views) shows (p, v.0) v.1 o outer e s
             (leads.0, leads.1, subst (λ w. In s (host_steps leads.0 leads.0.form) ⊎ In s (steps (views_shown app o outer leads.0.number leads.0.form (value_of w leads.0.number)))) value leads.2) t
 
+  -- A pass leaves no views, where there is no root instance, or the root instance's with all that is shown.
+  pass_whole : (every : Bool) (marks : List Trail) (z : State) (r : Passed) → pass app every marks z ≡ Ok r
+      → ((outlines app [] ≡ []) × (r.state.tree.views ≡ [])) ⊎ Whole [] [] r.state.tree.views
+  unfolding pass outlines
+  pass_whole every marks z r e =
+      let os = root_view app (root_component app) in
+      let g = grow_root app z.tree every marks os (begun z.world) in
+      of_root os refl (ended_well g.0 g.1 r e) (left_by g.0 g.1 r e)
+    where
+      of_root : (vs : Outlines) → root_view app (root_component app) ≡ vs → ((u : Unit {0}) × ((grow_root app z.tree every marks (root_view app (root_component app)) (begun z.world)).0 ≡ Ok u))
+          → r ≡ passed (grow_root app z.tree every marks (root_view app (root_component app)) (begun z.world)).1
+          → ((root_view app (root_component app) ≡ []) × (r.state.tree.views ≡ [])) ⊎ Whole [] [] r.state.tree.views
+      of_root [] d well left = inl (d, ap (λ (t : Passed). t.state.tree.views) left ∙ ap (λ vs. (grow_root app z.tree every marks vs (begun z.world)).1.views) d)
+      of_root (x ∷ xs) d well left =
+          let begins : x.path ≡ [] = subst (BeginsAt []) d (root_begins app (root_component app)) in
+          let ended_so = subst (λ vs. (grow_root app z.tree every marks vs (begun z.world)).0 ≡ Ok well.0) d well.1 in
+          let whole = root_wholes z.tree every marks x xs d (root_alone (root_component app) x xs d) begins (begun z.world) well.0 ended_so in
+          inr (subst (λ vs. Whole [] [] vs) (sym (ap (λ (t : Passed). t.state.tree.views) left ∙ ap (λ vs. (grow_root app z.tree every marks vs (begun z.world)).1.views) d)) whole)
+
   -- Each view that the tree of a pass shows is live in it, and has at most 63 steps.
   pub pass-ShowsLive : (every : Bool) (marks : List Trail) (z : State) (r : Passed) → pass app every marks z ≡ Ok r → (p : Trail) (o : Outline) (outer : Outlines) → IsShown app r.state.tree p → outlines app p ≡ o ∷ outer
       → In p (paths r.state.tree.views) × (length p ≤ 63)
-  unfolding pass outlines
-  pass-ShowsLive every marks z r e p o outer shown here =
-      let os = root_view app (root_component app) in
-      let g = grow_root app z.tree every marks os (begun z.world) in
-      let left : r ≡ passed g.1 = left_by g.0 g.1 r e in
-      of_root os refl (ended_well g.0 g.1 r e) left
+  pass-ShowsLive every marks z r e p o outer shown here = elim (pass_whole every marks z r e) [ inl h ↦ absurd (no_root p h.0 shown there) | inr g ↦ of_whole g ]
     where
       there : IsThere (outlines app p)
       there = subst IsThere (sym here) tt
@@ -373,11 +432,42 @@ module _ (app : App) where
           of_views [] leads h = leads
           of_views (y ∷ ys) leads h = h tt
 
-      of_root : (vs : Outlines) → root_view app (root_component app) ≡ vs → ((u : Unit {0}) × ((grow_root app z.tree every marks (root_view app (root_component app)) (begun z.world)).0 ≡ Ok u))
-          → r ≡ passed (grow_root app z.tree every marks (root_view app (root_component app)) (begun z.world)).1 → In p (paths r.state.tree.views) × (length p ≤ 63)
-      of_root [] d well left = absurd (no_root p d shown there)
-      of_root (x ∷ xs) d well left =
-          let begins : x.path ≡ [] = subst (BeginsAt []) d (root_begins app (root_component app)) in
-          let ended_so = subst (λ vs. (grow_root app z.tree every marks vs (begun z.world)).0 ≡ Ok well.0) d well.1 in
-          let whole = root_wholes z.tree every marks x xs d (root_alone (root_component app) x xs d) begins (begun z.world) well.0 ended_so in
-          of_whole (subst (λ vs. Whole [] [] vs) (sym (ap (λ (t : Passed). t.state.tree.views) left ∙ ap (λ vs. (grow_root app z.tree every marks vs (begun z.world)).1.views) d)) whole)
+  -- ---- what is live is shown
+
+  path_in : (vs : List (Trail × View)) (p : Trail) (w : View) → In (p, w) vs → In p (paths vs)
+  path_in [] p w i = absurd i
+  path_in (v ∷ vs) p w (inl e) = inl (λ i. (e i).0)
+  path_in (v ∷ vs) p w (inr i) = inr (path_in vs p w i)
+
+  -- where no path stands twice, each view is found at its path
+  found_apart : (vs : List (Trail × View)) → Apart (paths vs) → (p : Trail) (w : View) → In (p, w) vs → view_at p vs ≡ Some w
+  found_apart [] apart p w i = absurd i
+  found_apart (v ∷ vs) apart p w i = by_test (same_path p v.0) refl i (λ j. found_apart vs apart.1 p w j)
+    where
+      by_test : (b : Bool) → same_path p v.0 ≡ b → In (p, w) (v ∷ vs) → (In (p, w) vs → view_at p vs ≡ Some w) → cond b (Some v.1) (view_at p vs) ≡ Some w
+      by_test true e (inl d) rest = λ i. Some (sym d i).1
+      by_test true e (inr j) rest = absurd (apart.0 (subst (λ q. In q (paths vs)) ((same_path_decides p v.0).0 e) (path_in vs p w j)))
+      by_test false e (inl d) rest = let t : same_path p v.0 ≡ true = (same_path_decides p v.0).1 (λ i. (d i).0) in cc
+      by_test false e (inr j) rest = rest j
+
+  -- a view that comes from another is shown where the other is
+  live_shown : (tree : Tree) → Apart (paths tree.views) → ((q : Trail) → In q (paths tree.views) → (q ≡ []) ⊎ ComesFrom tree.views q) → (p : Trail) → In p (paths tree.views) → IsShown app tree p
+  live_shown tree apart comes [] i = tt
+  live_shown tree apart comes (s ∷ p) i = of_view (comes (s ∷ p) i) (λ j. live_shown tree apart comes p j)
+    where
+      of_view : (s ∷ p ≡ []) ⊎ ComesFrom tree.views (s ∷ p) → (In p (paths tree.views) → IsShown app tree p) → IsShown app tree (s ∷ p)
+      of_view (inl e) parent = cc
+      of_view (inr c) parent =
+          let o : Outline = c.1 in
+          let begins : o.path ≡ p = subst (BeginsAt p) c.4 (outlines-BeginsAt app p) in
+          let value : view_at o.path tree.views ≡ Some c.0 = ap (λ q. view_at q tree.views) begins ∙ found_apart tree.views apart p c.0 c.3 in
+          let leads : Leads app tree (o ∷ c.2) s =
+          (c.5.0, c.5.1, subst (λ w. In s (host_steps c.5.0 c.5.0.form) ⊎ In s (steps (views_shown app o c.2 c.5.0.number c.5.0.form (value_of w c.5.0.number)))) (sym value) c.5.2) in
+          (parent (path_in tree.views p c.0 c.3), subst (λ os. Leads app tree os s) (sym c.4) leads)
+
+  -- Each view that is live in the tree of a pass is one that the tree shows.
+  pub pass-LivesShown : (every : Bool) (marks : List Trail) (z : State) (r : Passed) → ViewsCounted z.tree.views → pass app every marks z ≡ Ok r → (p : Trail) → In p (paths r.state.tree.views) → IsShown app r.state.tree p
+  pass-LivesShown every marks z r counted e p i = elim (pass_whole every marks z r e) [
+    | inl h ↦ absurd (subst (λ vs. In p (paths vs)) h.1 i)
+    | inr g ↦ live_shown r.state.tree (pass-IsInOrder app every marks z r counted e).0.apart (subst (λ vs. (q : Trail) → In q (paths vs) → (q ≡ []) ⊎ ComesFrom vs q) (sym g.is) g.comes) p i
+  ]
