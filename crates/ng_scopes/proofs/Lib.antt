@@ -1,0 +1,4 @@
+pub mod ScopeLaws
+pub mod ExprLaws
+pub mod StmtLaws
+pub mod TemplateLaws
