@@ -1,0 +1,11 @@
+pub mod Texts
+pub mod Steps
+pub mod Places
+pub mod Answering
+pub mod Lengths
+pub mod SpelledLaws
+pub mod Runs
+pub mod WordLaws
+pub mod NameLaws
+pub mod PieceLaws
+pub mod PieceSteps
