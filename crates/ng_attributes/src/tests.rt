@@ -57,11 +57,28 @@ fn forms(rt: HostRuntime) -> Result<(), Fail> {
     Ok(())
 }
 
+fn word_text(alloc: Global, form: &NameForm) -> Result<String, AllocError> {
+    let word = word_of(alloc, form)?;
+    String::from_str(alloc, word.as_str())
+}
+
 #[test]
 fn words(rt: HostRuntime) -> Result<(), Fail> {
-    let word = word_of(rt.alloc(), &NameForm::Outlet)?;
+    let word = word_text(rt.alloc(), &NameForm::Outlet)?;
     assert_eq!(rt; word.as_str(), "ngTemplateOutlet");
-    let alone = without_value(rt.alloc(), &NameForm::Outlet)?.is_some();
+    Ok(())
+}
+
+fn stands_alone(alloc: Global, form: &NameForm) -> Result<bool, AllocError> {
+    match without_value(alloc, form)? {
+        Some(_) => Ok(true),
+        None => Ok(false),
+    }
+}
+
+#[test]
+fn outlets_have_values(rt: HostRuntime) -> Result<(), Fail> {
+    let alone = stands_alone(rt.alloc(), &NameForm::Outlet)?;
     assert!(rt; !alone);
     Ok(())
 }
@@ -159,5 +176,27 @@ fn expressions(rt: HostRuntime) -> Result<(), Fail> {
     assert_eq!(rt; listener_text(alloc, "a = 1; b();"), "read");
     assert_eq!(rt; listener_text(alloc, "if (a) { b(); }"), "none");
     assert_eq!(rt; one_name(" true "), Some("true"));
+    Ok(())
+}
+
+// The column at which an expression is refused.
+fn refused_at(alloc: Global, text: &str) -> u32 {
+    if text.len() > 1000 {
+        return 0;
+    }
+    match expression(alloc, text, BASE) {
+        Ok(_) => 0,
+        Err(Stop::Syntax(place)) => place.column,
+        Err(Stop::Limit) => 0,
+        Err(Stop::Memory) => 0,
+    }
+}
+
+#[test]
+fn refusals_have_places(rt: HostRuntime) -> Result<(), Fail> {
+    let alloc = rt.alloc();
+    assert_eq!(rt; refused_at(alloc, "a b"), 3);
+    assert_eq!(rt; refused_at(alloc, "\"é\" +"), 6);
+    assert_eq!(rt; refused_at(alloc, "a + * b"), 5);
     Ok(())
 }
