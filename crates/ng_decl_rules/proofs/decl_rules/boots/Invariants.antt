@@ -1,0 +1,7 @@
+use Rattle.std.proofs.Common.{◌≡◌, take}
+use Rattle.std.specs.List.{flat_map}
+use Rattle.ng_decl_rules.specs.DeclRules.{boot_site}
+use Rattle.ng_decl_rules.proofs.decl_rules.boots.Given as goal
+
+abbrev pub invariant-loop-decl : goal.invariant-loop-decl
+invariant-loop-decl l = l.sites.items ≡ flat_map boot_site (take l.decl-index l.decls)

@@ -1,0 +1,3 @@
+pub mod MemberRules
+pub mod DeclRules
+pub mod Barred
