@@ -12,12 +12,12 @@ abbrev pub flag : Text → Rule
 flag id = record (new_rule id) { long = Some id; action = Some SetTrue }
 
 -- a program whose words don't begin with its own name
-abbrev pub nameless : Text → App
-nameless name = record (new_app name) { top = record (new_app name).top { no_binary_name = true } }
+abbrev pub nameless : App → App
+nameless app = record app { top = record app.top { no_binary_name = true } }
 
 -- Three words and four flags. What asks for help is there besides, as `clap` adds it.
 unfoldable pub command : App
 command =
-    with_rule (with_rule (with_rule (with_rule (with_rule (with_rule (with_rule (nameless (codes "ivy"))
+    with_rule (with_rule (with_rule (with_rule (with_rule (with_rule (with_rule (nameless (new_app (codes "ivy")))
     (positional (codes "command"))) (positional (codes "first"))) (positional (codes "second")))
     (flag (codes "every"))) (flag (codes "ops"))) (flag (codes "report"))) (flag (codes "trace"))

@@ -1,17 +1,14 @@
-use Rattle.std.proofs.Common.{◌≡◌, ◌∙◌, ap, ap₂, codes, true}
+use Rattle.std.proofs.Common.{◌≡◌, ◌∙◌, ap, ap₂, codes}
 use Rattle.std.proofs.lemmas.Result.{IfOk-weaker}
-use Rattle.clap.specs.Words.{App, app_of, with_rule}
+use Rattle.clap.specs.Words.{app_of, new_app, with_rule}
 use Rattle.clap.specs.Simple.{app_of_fields}
 use Rattle.ng_words.specs.Command.{nameless, command}
 use Rattle.ng_words.proofs.command.command.Goals as goal
 
-abbrev nameless_of : App → App
-nameless_of a = record a { top = record a.top { no_binary_name = true } }
-
 pub returns : goal.returns
 unfolding command
 returns c =
-    let bare : app_of c.no_binary_name-nameless.result ≡ nameless (codes "ivy") = ap app_of_fields c.no_binary_name-nameless.ensures ∙ ap nameless_of c.new.ensures.app in
+    let bare : app_of c.no_binary_name-nameless.result ≡ nameless (new_app (codes "ivy")) = ap app_of_fields c.no_binary_name-nameless.ensures ∙ ap nameless c.new.ensures.app in
     let named : app_of c.in_ok-named.named ≡ _ = c.in_ok-named.ensures.shape c.positional.ensures.own ∙ ap₂ with_rule bare c.positional.ensures.rule in
     let one : app_of c.in_ok-one.one ≡ _ = c.in_ok-one.ensures.shape c.positional-2.ensures.own ∙ ap₂ with_rule named c.positional-2.ensures.rule in
     let two : app_of c.in_ok-two.two ≡ _ = c.in_ok-two.ensures.shape c.positional-3.ensures.own ∙ ap₂ with_rule one c.positional-3.ensures.rule in
