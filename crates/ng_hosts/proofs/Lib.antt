@@ -1,0 +1,4 @@
+pub mod Merging
+pub mod Positions
+pub mod Candidates
+pub mod Rows

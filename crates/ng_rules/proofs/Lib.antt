@@ -1,0 +1,2 @@
+pub mod LeastIs
+pub mod Laws

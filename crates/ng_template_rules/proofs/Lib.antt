@@ -1,0 +1,3 @@
+pub mod LeastNext
+pub mod NodeLaws
+pub mod SlotLaws

@@ -1,0 +1,8 @@
+use Rattle.std.proofs.Common.{◌≡◌, ◌++◌, [], false, map, take, drop, bytes_eq}
+use Rattle.std.specs.List.{flat_map}
+use Rattle.std.specs.Option.{option_copied}
+use Rattle.ng_template_rules.specs.ElementRules.{given}
+use Rattle.ng_template_rules.proofs.elements.given.Given as goal
+
+abbrev pub invariant-loop-site : goal.invariant-loop-site
+invariant-loop-site l = l.inputs.items ≡ given (option_copied l.host) (take l.site-index l.sites)
