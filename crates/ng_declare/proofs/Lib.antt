@@ -1,0 +1,11 @@
+pub mod Gaps
+pub mod EndSteps
+pub mod Rounds
+pub mod Weighing
+pub mod Counting
+pub mod Whole
+pub mod Marks
+pub mod Written
+pub mod Found
+pub mod Ticks
+pub mod Within

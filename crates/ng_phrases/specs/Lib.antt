@@ -1,0 +1,10 @@
+pub mod Parser
+pub mod ParserLaws
+pub mod Phrase
+pub mod Reading
+pub mod Parse
+pub mod Nested
+pub mod Closed
+pub mod Tokens
+pub mod TokensLaws
+pub mod Words
