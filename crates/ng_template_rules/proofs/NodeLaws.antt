@@ -1,5 +1,5 @@
 -- The breaks of a node by itself, one equation for each variant.
-use Rattle.std.proofs.Common.{◌≡◌, refl, List, [], ◌∷◌, ◌++◌, map, ap, ◌∙◌, sym, false, Option}
+use Rattle.std.proofs.Common.{◌≡◌, List, [], ◌++◌, ap, ◌∙◌, sym, false, Option}
 use Rattle.std.specs.List.{flat_map}
 use Rattle.ng_ast.specs.declared.Place.{Place}
 use Rattle.ng_ast.specs.declared.Expr.{Expr}

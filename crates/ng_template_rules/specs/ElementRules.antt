@@ -1,5 +1,5 @@
 -- The rules on the elements of a template.
-use Rattle.std.specs.Prelude.{ℕ, Bool, true, false, not, ◌||◌, ◌&&◌, ◌==◌, if◌then◌else◌, bytes_eq, codes, List, [], ◌∷◌, ◌++◌, Option, Some, None}
+use Rattle.std.specs.Prelude.{Bool, true, false, not, ◌||◌, ◌&&◌, ◌==◌, if◌then◌else◌, bytes_eq, codes, List, [], ◌∷◌, ◌++◌, Option, Some, None}
 use Rattle.std.specs.List.{flat_map, list_any}
 use Rattle.ng_ast.specs.declared.Place.{Place}
 use Rattle.ng_ast.specs.declared.AttrForm.{AttrForm}
@@ -21,7 +21,7 @@ use Rattle.ng_parts.specs.Sites.{Name, site, when, repeats}
 use Rattle.ng_template_rules.specs.declared.elements.Group.{Group}
 use Rattle.ng_template_rules.specs.declared.elements.Group.TheVariants as group
 use Rattle.ng_breaks.specs.Least.{broken, of_rule}
-use Rattle.ng_breaks.specs.NameRules.{sort_in, is_input, is_output}
+use Rattle.ng_breaks.specs.NameRules.{is_input, is_output}
 use Rattle.ng_template_rules.specs.Tables.{is_property, is_event}
 
 abbrev pub is_container : Name → Bool

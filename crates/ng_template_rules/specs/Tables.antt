@@ -1,5 +1,5 @@
 -- The properties and events that elements have.
-use Rattle.std.specs.Prelude.{ℕ, Bool, ◌||◌, bytes_eq, codes, List, [], ◌∷◌}
+use Rattle.std.specs.Prelude.{Bool, ◌||◌, bytes_eq, codes, List, [], ◌∷◌}
 use Rattle.std.specs.List.{list_any}
 use Rattle.ng_parts.specs.Sites.{Name}
 

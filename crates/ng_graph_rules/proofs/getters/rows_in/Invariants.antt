@@ -1,5 +1,4 @@
 use Rattle.std.proofs.Common.{◌≡◌, take}
-use Rattle.std.specs.HashMap.{get}
 use Rattle.ng_graph_rules.specs.CycleRules.{getter_graph}
 use Rattle.ng_scopes.specs.Names.{nothing}
 use Rattle.ng_scopes.specs.Scope.{kept_in}

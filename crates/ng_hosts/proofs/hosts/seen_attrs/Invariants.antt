@@ -1,4 +1,4 @@
-use Rattle.std.proofs.Common.{◌≡◌, ◌++◌, [], false, map, take, drop, bytes_eq}
+use Rattle.std.proofs.Common.{◌≡◌, take}
 use Rattle.ng_hosts.specs.Hosts.{seen_attrs}
 use Rattle.ng_hosts.proofs.hosts.seen_attrs.Given as goal
 

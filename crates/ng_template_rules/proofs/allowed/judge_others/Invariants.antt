@@ -1,7 +1,7 @@
 use Rattle.std.proofs.Common.{◌≡◌, take, not}
 use Rattle.std.specs.List.{flat_map}
 use Rattle.ng_ast.specs.declared.refusals.Rule.TheVariants as rule
-use Rattle.ng_breaks.specs.Least.{broken, least_of, of_rule}
+use Rattle.ng_breaks.specs.Least.{broken, least_of}
 use Rattle.ng_template_rules.specs.ElementRules.{is_allowed}
 use Rattle.ng_template_rules.proofs.allowed.judge_others.Given as goal
 

@@ -1,5 +1,4 @@
-use Rattle.std.proofs.Common.{◌≡◌, ◌++◌, [], false, map, take, drop, bytes_eq}
-use Rattle.std.specs.List.{flat_map}
+use Rattle.std.proofs.Common.{◌≡◌, take}
 use Rattle.ng_template_rules.specs.ElementRules.{heard_sites}
 use Rattle.ng_template_rules.proofs.elements.heard_sites.Given as goal
 

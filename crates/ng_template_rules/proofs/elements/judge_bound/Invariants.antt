@@ -2,7 +2,7 @@ use Rattle.std.proofs.Common.{◌≡◌, ◌||◌, take, not}
 use Rattle.std.specs.List.{flat_map}
 use Rattle.std.specs.Option.{option_copied}
 use Rattle.ng_ast.specs.declared.refusals.Rule.TheVariants as rule
-use Rattle.ng_breaks.specs.Least.{broken, least_of, of_rule}
+use Rattle.ng_breaks.specs.Least.{broken, least_of}
 use Rattle.ng_template_rules.specs.ElementRules.{has_input}
 use Rattle.ng_template_rules.specs.Tables.{is_property}
 use Rattle.ng_template_rules.proofs.elements.judge_bound.Given as goal

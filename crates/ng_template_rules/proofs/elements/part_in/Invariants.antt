@@ -1,4 +1,4 @@
-use Rattle.std.proofs.Common.{◌≡◌, ◌++◌, [], false, map, take, drop, length, bytes_eq}
+use Rattle.std.proofs.Common.{◌≡◌, length}
 use Rattle.ng_template_rules.specs.ElementRules.{part_in}
 use Rattle.ng_template_rules.proofs.elements.part_in.Given as goal
 

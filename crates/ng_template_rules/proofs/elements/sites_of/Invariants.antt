@@ -1,7 +1,5 @@
-use Rattle.std.proofs.Common.{◌≡◌, ◌++◌, [], false, map, take, drop, bytes_eq}
-use Rattle.std.specs.List.{flat_map}
-use Rattle.ng_parts.specs.Sites.{site, when}
-use Rattle.ng_template_rules.specs.ElementRules.{is_of, sites_of}
+use Rattle.std.proofs.Common.{◌≡◌, take}
+use Rattle.ng_template_rules.specs.ElementRules.{sites_of}
 use Rattle.ng_template_rules.proofs.elements.sites_of.Given as goal
 
 abbrev pub invariant-loop-attr : goal.invariant-loop-attr

@@ -1,6 +1,6 @@
-use Rattle.std.proofs.Common.{◌≡◌, ◌++◌, [], false, map, take, drop, bytes_eq}
+use Rattle.std.proofs.Common.{◌≡◌, take}
 use Rattle.std.specs.List.{flat_map}
-use Rattle.ng_breaks.specs.Least.{broken, least_of, of_rule}
+use Rattle.ng_breaks.specs.Least.{least_of}
 use Rattle.ng_parts.specs.Flat.{pointed}
 use Rattle.ng_template_rules.specs.TemplateRules.{content_breaks}
 use Rattle.ng_template_rules.proofs.nodes.judge_contents.Given as goal

@@ -1,5 +1,5 @@
-use Rattle.std.proofs.Common.{◌≡◌, ◌++◌, [], false, map, take, drop, bytes_eq}
-use Rattle.ng_breaks.specs.Least.{broken, least_of, of_rule}
+use Rattle.std.proofs.Common.{◌≡◌, false, drop}
+use Rattle.ng_breaks.specs.Least.{least_of}
 use Rattle.ng_template_rules.specs.TemplateRules.{default_breaks}
 use Rattle.ng_template_rules.proofs.nodes.judge_defaults.Given as goal
 

@@ -1,4 +1,4 @@
-use Rattle.std.proofs.Common.{◌≡◌, ◌++◌, [], false, map, take, drop, bytes_eq}
+use Rattle.std.proofs.Common.{◌≡◌, take}
 use Rattle.ng_template_rules.specs.TemplateRules.{references}
 use Rattle.ng_template_rules.proofs.nodes.references.Given as goal
 

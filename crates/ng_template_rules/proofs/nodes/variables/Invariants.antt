@@ -1,4 +1,4 @@
-use Rattle.std.proofs.Common.{◌≡◌, ◌++◌, [], false, map, take, drop, bytes_eq}
+use Rattle.std.proofs.Common.{◌≡◌, take}
 use Rattle.ng_template_rules.specs.TemplateRules.{variables}
 use Rattle.ng_template_rules.proofs.nodes.variables.Given as goal
 

@@ -1,6 +1,5 @@
-use Rattle.std.proofs.Common.{◌≡◌, ◌++◌, [], false, map, take, drop, bytes_eq}
-use Rattle.std.specs.List.{flat_map}
-use Rattle.ng_breaks.specs.Least.{broken, least_of, of_rule}
+use Rattle.std.proofs.Common.{◌≡◌, take}
+use Rattle.ng_breaks.specs.Least.{least_of}
 use Rattle.ng_template_rules.specs.TemplateRules.{slot_breaks}
 use Rattle.ng_template_rules.proofs.slots.judge_own.Given as goal
 

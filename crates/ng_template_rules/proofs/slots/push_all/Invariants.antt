@@ -1,4 +1,4 @@
-use Rattle.std.proofs.Common.{◌≡◌, ◌++◌, [], false, map, take, drop, bytes_eq}
+use Rattle.std.proofs.Common.{◌≡◌, ◌++◌, take}
 use Rattle.ng_template_rules.proofs.slots.push_all.Given as goal
 
 abbrev pub invariant-loop-name : goal.invariant-loop-name

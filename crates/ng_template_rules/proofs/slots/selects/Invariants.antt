@@ -1,4 +1,4 @@
-use Rattle.std.proofs.Common.{◌≡◌, ◌++◌, [], false, map, take, drop, bytes_eq}
+use Rattle.std.proofs.Common.{◌≡◌, take}
 use Rattle.std.specs.List.{flat_map}
 use Rattle.ng_template_rules.specs.TemplateRules.{selects}
 use Rattle.ng_template_rules.proofs.slots.selects.Given as goal

@@ -1,4 +1,4 @@
-use Rattle.std.proofs.Common.{◌∙◌, ap, map}
+use Rattle.std.proofs.Common.{◌∙◌, ap}
 use Rattle.ng_breaks.specs.Least.{least_of}
 use Rattle.ng_template_rules.specs.TemplateRules.{component_breaks, template_breaks}
 use Rattle.ng_template_rules.proofs.LeastNext.{pointed_next, targets}
