@@ -85,3 +85,25 @@ fn another_component_starts(rt: HostRuntime) -> Result<(), Fail> {
     assert_eq!(rt; answer(check(alloc, app)), (Some((Rule::N01, 3)), 2));
     Ok(())
 }
+
+/// Whether an application is quiet, and whether it can be run; neither where it isn't sound.
+fn questions(
+    alloc: Global,
+    found: Result<SoundApp, CheckError>,
+) -> Result<(bool, bool), AllocError> {
+    match found {
+        Ok(sound) => Ok((quiet(alloc, &sound)?, unbuilt(&sound).is_none())),
+        Err(error) => {
+            drop(error);
+            Ok((false, false))
+        }
+    }
+}
+
+#[test]
+fn a_quiet_application(rt: HostRuntime) -> Result<(), Fail> {
+    let alloc = rt.alloc();
+    let app = app(alloc, "R")?;
+    assert_eq!(rt; questions(alloc, check(alloc, app))?, (true, true));
+    Ok(())
+}

@@ -1,0 +1,6 @@
+pub mod Members
+pub mod ReachedLaws
+pub mod UsedLaws
+pub mod SkippedLaws
+pub mod FieldLaws
+pub mod QuietLaws

@@ -1,0 +1,4 @@
+pub mod Quiet
+pub mod Methods
+pub mod Used
+pub mod Reached
