@@ -1,0 +1,16 @@
+pub mod OutletLaws
+pub mod ValueLaws
+pub mod TagLaws
+pub mod TagSteps
+pub mod MarkLaws
+pub mod AttributeLaws
+pub mod AttributeSteps
+pub mod AttributeAnswers
+pub mod Cuts
+pub mod OutletSteps
+pub mod OutletForms
+pub mod OutletAnswers
+pub mod Saying
+pub mod TokenLaws
+pub mod Tagging
+pub mod TagAnswers

@@ -1,0 +1,5 @@
+pub mod Tags
+pub mod Marks
+pub mod Outlets
+pub mod Reads
+pub mod Tokens
