@@ -1,0 +1,13 @@
+pub mod Free
+pub mod Runs
+pub mod Complete
+pub mod Rules
+pub mod Begun
+pub mod Sound
+pub mod Limited
+pub mod Grows
+pub mod Public
+pub mod Counts
+pub mod Loops
+pub mod Steps
+pub mod Replies
