@@ -1,4 +1,4 @@
--- Quiet applications: those in which a component whose check is left out shows what a check of it would show.
+-- Quiet applications: those that keep two rules, which are to let a component whose check is left out show what a check of it would show.
 use Rattle.std.specs.Prelude.{◌≡◌, ℕ, Bool, true, false, not, ◌||◌, ◌&&◌, bytes_eq, IsTrue, List, [], ◌∷◌, Contains, slice_get, Option, Some, None}
 use Rattle.std.specs.List.{flat_map, list_any, list_all}
 use Rattle.ng_ast.specs.declared.TNode.{TNode, out-TNode}

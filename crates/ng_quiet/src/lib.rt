@@ -1,4 +1,4 @@
-//! Quiet applications, in which components whose check is left out show what a check would show.
+//! Quiet applications: the rules that are to let components whose check is left out show what a check would show.
 #![tactic(auto)]
 
 mod fields;

@@ -56,8 +56,8 @@ fn all_keep(
     Ok(true)
 }
 
-/// Whether the application is quiet, so that it shows the same where the checks of unmarked components under change detection `OnPush` are
-/// left out.
+/// Whether the application is quiet: whether it keeps two rules that are to make it show the same where the checks of unmarked components under
+/// change detection `OnPush` are left out. That they do isn't proved here.
 ///
 /// Let S be the least set that holds the OnPush components, used or not, and each component that an element of a template of S matches. An
 /// application is quiet where every component of S keeps two rules:

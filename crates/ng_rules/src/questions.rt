@@ -10,8 +10,8 @@ use ng_ast::Place;
 use ng_quiet::is_quiet;
 use std::alloc::{AllocError, Global};
 
-/// Whether the application is quiet, so that it shows the same where the checks of unmarked components under change detection `OnPush` are
-/// left out; `ng_quiet::is_quiet` says which applications are quiet, and at what cost. The only error is want of memory.
+/// Whether the application is quiet: whether it keeps the rules of `ng_quiet::is_quiet`, at the cost told there. The only error is want of
+/// memory.
 pub fn quiet(alloc: Global, app: &SoundApp) -> Result<bool, AllocError>
     ensures { IfOk result (λ answer. IsTrue answer ↔ IsQuiet app.now) }
 {
