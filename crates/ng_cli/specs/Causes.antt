@@ -3,8 +3,8 @@ use Rattle.std.specs.Prelude.{◌≡◌, ℕ, ◌⊎◌, List, ◌++◌, Option,
 use Rattle.ng_outside.specs.Causes.{Rose}
 use Rattle.ng_outside.specs.Taken.{appended}
 use Rattle.ng_semantics.specs.Text.{Text}
-use Rattle.ng_cli.specs.Words.{Files, files_of}
-use Rattle.ng_cli.specs.Refusals.{RefusesApp}
+use Rattle.ng_cli.specs.Words.{Task, Runs, Checks, app_of, task_of}
+use Rattle.ng_cli.specs.Refusals.{RefusesTask}
 use Rattle.ng_cli.specs.Allowed.{Told, Allowed}
 
 -- This was written.
@@ -25,16 +25,25 @@ pub record WroteFront (words : List Text) (told : Told) (before after : Option T
   pub allowed : Allowed words told status (front ++ rest)
   pub wrote : Wrote before after front
 
--- A fetch failed: of the application, or of the events where the application, if it is told, isn't refused.
-pub record FetchFailed (words : List Text) (told : Told) (before after : Text → ℕ) : Type 0 where
-  pub files : Files
-  pub accepted : files_of words ≡ Some files
-  pub rose : Rose (before files.app) (after files.app)
-      ⊎ (Rose (before files.events) (after files.events) × IfSome (told files.app) (λ app. (line : Text) → RefusesApp app line → ⊥))
+-- the events of a task failed: they are wanted where the application, if it is told, isn't refused
+abbrev pub EventsFailed : Task → Told → (Text → ℕ) → (Text → ℕ) → Type 0
+EventsFailed (Runs app events) told before after = Rose (before events) (after events) × IfSome (told app) (λ bytes. (line : Text) → RefusesTask (Runs app events) bytes line → ⊥)
+EventsFailed (Checks app) told before after = ⊥
 
--- No fetch of a named file failed.
-abbrev pub NoneFailed : Files → (Text → ℕ) → (Text → ℕ) → Type 0
-NoneFailed files before after = (Rose (before files.app) (after files.app) → ⊥) × (Rose (before files.events) (after files.events) → ⊥)
+-- A fetch failed: of the application, or of the events.
+pub record FetchFailed (words : List Text) (told : Told) (before after : Text → ℕ) : Type 0 where
+  pub task : Task
+  pub accepted : task_of words ≡ Some task
+  pub rose : Rose (before (app_of task)) (after (app_of task)) ⊎ EventsFailed task told before after
+
+-- No fetch of a file of this name failed.
+abbrev pub NotFailed : Text → (Text → ℕ) → (Text → ℕ) → Type 0
+NotFailed name before after = Rose (before name) (after name) → ⊥
+
+-- No fetch of a file of the task failed.
+abbrev pub NoneFailed : Task → (Text → ℕ) → (Text → ℕ) → Type 0
+NoneFailed (Runs app events) before after = NotFailed app before after × NotFailed events before after
+NoneFailed (Checks app) before after = NotFailed app before after
 
 -- Of a whole output a beginning was written.
 pub record WrotePart (before after : Option Text) (whole : Text) : Type 0 where

@@ -8,18 +8,18 @@ use Rattle.ng_cli.specs.declared.status.Status.{Status}
 use Rattle.ng_cli.specs.declared.status.Status.TheVariants as status
 use Rattle.ng_words.specs.declared.reading.Refused.{Refused}
 use Rattle.ng_words.specs.declared.reading.Refused.TheVariants as refused
-use Rattle.ng_cli.specs.Words.{Files, files_of}
+use Rattle.ng_cli.specs.Words.{Task, task_of}
 use Rattle.ng_cli.specs.Allowed.{Told, AreTold}
 use Rattle.ng_cli.specs.Causes.{Wrote, WrotePart, WroteAllowed, WroteFront, FetchFailed}
 use Rattle.ng_cli.specs.Steps.{line_of}
 
 -- The files that the words name, as far as the order of reading comes to them, are told.
 abbrev pub AllTold : List Text → Told → Type 0
-AllTold words told = (files : Files) → files_of words ≡ Some files → AreTold files told
+AllTold words told = (task : Task) → task_of words ≡ Some task → AreTold task told
 
 -- The words ask for nothing that can be done, or memory ran out.
 abbrev pub NamesNone : List Text → Refused → Type 0
-NamesNone words refused.Words = files_of words ≡ None
+NamesNone words refused.Words = task_of words ≡ None
 NamesNone words refused.Memory = Unit {0}
 
 -- A text was to be written, and then the call was to end so.
@@ -40,10 +40,10 @@ WroteSome words told before after = WroteFront words told before after ⊎ (afte
 -- What holds after a whole call that ended with a status.
 abbrev pub Ends : List Text → Told → (Text → ℕ) → (Text → ℕ) → Option Text → Option Text → ℕ → ℕ → Status → Type 0
 Ends words told failed_before failed_after before after faults_before faults_after status.Done =
-    ((files : Files) × (files_of words ≡ Some files)) × (AllTold words told → WroteAllowed words told 0 before after)
+    ((task : Task) × (task_of words ≡ Some task)) × (AllTold words told → WroteAllowed words told 0 before after)
 Ends words told failed_before failed_after before after faults_before faults_after status.NoMemory = AllTold words told → WroteSome words told before after
-Ends words told failed_before failed_after before after faults_before faults_after status.Usage = (files_of words ≡ None) × WroteAllowed words told 2 before after
+Ends words told failed_before failed_after before after faults_before faults_after status.Usage = (task_of words ≡ None) × WroteAllowed words told 2 before after
 Ends words told failed_before failed_after before after faults_before faults_after status.Refused =
-    ((files : Files) × (files_of words ≡ Some files)) × (AllTold words told → WroteAllowed words told 3 before after)
+    ((task : Task) × (task_of words ≡ Some task)) × (AllTold words told → WroteAllowed words told 3 before after)
 Ends words told failed_before failed_after before after faults_before faults_after status.NoFile = FetchFailed words told failed_before failed_after × (after ≡ before)
 Ends words told failed_before failed_after before after faults_before faults_after status.NoOutput = Rose faults_before faults_after × (AllTold words told → WroteSome words told before after)

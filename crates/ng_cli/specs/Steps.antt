@@ -9,7 +9,19 @@ use Rattle.ng_cli.specs.declared.refusal.Refusal.{Refusal}
 use Rattle.ng_cli.specs.declared.refusal.Refusal.TheVariants as refusal
 use Rattle.ng_cli.specs.declared.status.Status.{Status}
 use Rattle.ng_cli.specs.declared.status.Status.TheVariants as status
-use Rattle.ng_cli.specs.Refusals.{not_built_line, RefusesApp, RefusesEvents}
+use Rattle.std.specs.Prelude.{◌≡◌, Bool, true, false}
+use Rattle.ng_ast.specs.declared.App.{App}
+use Rattle.ng_ast.specs.declared.Place.{Place}
+use Rattle.ng_ast.specs.declared.refusals.ReadError.{ReadError}
+use Rattle.ng_ast.specs.declared.refusals.ReadError.TheVariants as read
+use Rattle.ng_rules.specs.declared.checker.CheckError.{CheckError}
+use Rattle.ng_rules.specs.declared.checker.CheckError.TheVariants as check
+use Rattle.ng_unbuilt.specs.Forms.{forms}
+use Rattle.ng_unbuilt.specs.Least.{least}
+use Rattle.ng_cli.specs.declared.words.Task.{Task as Task'}
+use Rattle.ng_cli.specs.declared.words.Task.TheVariants as task
+use Rattle.ng_cli.specs.Words.{Task, Runs, Checks}
+use Rattle.ng_cli.specs.Refusals.{line_at, break_line, RefusesApp, RefusesTask, RefusesEvents}
 use Rattle.std.specs.Prelude.{codes}
 use denote.Ref.{Bor}
 use Rattle.std.specs.Prelude.{◌++◌, length}
@@ -32,7 +44,10 @@ texts = map string_bytes
 abbrev pub line_of : Refusal → Text
 line_of refusal.AppTooLong = line (codes "refused app TooLong")
 line_of refusal.AppUtf8 = line (codes "refused app Utf8")
-line_of (refusal.AppNotBuilt place) = not_built_line place
+line_of (refusal.AppSyntax place) = line_at (codes "Syntax") place
+line_of (refusal.AppLimit place) = line_at (codes "Limit") place
+line_of (refusal.AppBroken break) = break_line break
+line_of (refusal.AppNotBuilt place) = line_at (codes "NotBuilt") place
 line_of refusal.EventsTooLong = line (codes "refused events TooLong")
 line_of refusal.EventsSyntax = line (codes "refused events Syntax")
 line_of refusal.EventsNotBuilt = line (codes "refused events NotBuilt")
@@ -48,7 +63,23 @@ abbrev pub outcome_told : Option (Bor Delivered) → Option Outcome
 outcome_told None = None
 outcome_told (Some delivered) = Some (outcome_in delivered.now)
 
--- Why bytes within the limit are no application that is read.
+-- why an application isn't read
+abbrev pub Unread : ReadError → Stop → Type 0
+Unread read.Utf8 s = s ≡ stop.Refused refusal.AppUtf8
+Unread (read.Syntax r) s = s ≡ stop.Refused (refusal.AppSyntax r.place)
+Unread (read.Limit r) s = s ≡ stop.Refused (refusal.AppLimit r.place)
+Unread read.Memory s = s ≡ stop.Memory
+
+-- why an application isn't sound
+abbrev pub Unsound : CheckError → Stop → Type 0
+Unsound (check.Refused r app) s = s ≡ stop.Refused (refusal.AppBroken r)
+Unsound (check.Memory app) s = s ≡ stop.Memory
+
+-- a run of the application isn't built, and this says so
+abbrev pub IsUnbuilt : App → Refusal → Type 0
+IsUnbuilt app r = (place : Place) × (least (forms app) ≡ Some place) × (r ≡ refusal.AppNotBuilt place)
+
+-- Why bytes within the limit are no sound application.
 abbrev pub AppReadStop : Text → Stop → Type 0
 AppReadStop bytes (stop.Refused r) = RefusesApp bytes (line_of r)
 AppReadStop bytes stop.Failed = ⊥
@@ -65,10 +96,26 @@ AppStop told before after (stop.Refused r) = IfSome told (λ bytes. RefusesApp b
 AppStop told before after stop.Failed = Rose before after
 AppStop told before after stop.Memory = Unit {0}
 
+-- The same for a task.
+abbrev pub TaskStop : Task → Option Text → ℕ → ℕ → Stop → Type 0
+TaskStop task told before after (stop.Refused r) = IfSome told (λ bytes. RefusesTask task bytes (line_of r))
+TaskStop task told before after stop.Failed = Rose before after
+TaskStop task told before after stop.Memory = Unit {0}
+
 abbrev pub EventsStop : Option Text → ℕ → ℕ → Stop → Type 0
 EventsStop told before after (stop.Refused r) = IfSome told (λ bytes. RefusesEvents bytes (line_of r))
 EventsStop told before after stop.Failed = Rose before after
 EventsStop told before after stop.Memory = Unit {0}
+
+-- what a check says of a sound application
+abbrev pub says : Bool → Text
+says true = line (codes "sound quiet")
+says false = line (codes "sound not-quiet")
+
+-- a task of the code
+abbrev pub meant : Task' → Task
+meant (task.Run app events) = Runs app.now events.now
+meant (task.Check app) = Checks app.now
 
 -- What is still to be written of a run of so many events: the turns of these clicks from here on, and the end.
 abbrev pub left : Running → ℕ → List Text → ℕ → Text

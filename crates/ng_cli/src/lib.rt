@@ -1,4 +1,4 @@
-//! The program `ivy`: reads an application and a list of events, and prints the page after every event.
+//! The program `ivy`: reads an application and says whether it keeps its rules, or, with a list of events, prints the page after every event.
 #![tactic(auto)]
 
 mod inputs;

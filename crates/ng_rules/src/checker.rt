@@ -40,6 +40,14 @@ impl SoundApp {
     {
         &self.app
     }
+
+    /// The application, which is moved out.
+    pub fn into_app(self) -> App
+        ensures same { result ≡ self }
+        ensures sound { spec.IsSound result }
+    {
+        self.app
+    }
 }
 
 /// Why an application isn't sound: its least break, or want of memory. Each hands the application back.

@@ -1,0 +1,5 @@
+pub mod Letters
+pub mod Plain
+pub mod PartLaws
+pub mod WrittenLaws
+pub mod PartAnswers

@@ -1,0 +1,5 @@
+pub mod Shallow
+pub mod Order
+pub mod Levels
+pub mod Few
+pub mod Whole
