@@ -81,7 +81,7 @@ fn checks_an_application(rt: HostRuntime) -> Result<(), Fail> {
     let mut shelf = SureShelf::new(files(alloc)?);
     let mut sink = SureSink::new(alloc);
     assert_eq!(rt; surely(alloc, &words, &mut shelf, &mut sink), 0);
-    assert!(rt; sink.bytes() == b"sound quiet\n");
+    assert!(rt; sink.bytes() == "sound quiet\n".as_bytes());
     Ok(())
 }
 
