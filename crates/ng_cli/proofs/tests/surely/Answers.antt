@@ -1,8 +1,20 @@
-use Rattle.std.proofs.Common.{arith, inl, inr, ◌⊎◌}
+use Rattle.std.proofs.Common.{ℕ, arith, inl, inr, ◌⊎◌}
+use Rattle.ng_outside.specs.Causes.{Rose}
+use Rattle.ng_semantics.specs.Text.{Text}
+use Rattle.ng_cli.specs.Words.{Task, Runs, Checks}
+use Rattle.ng_cli.specs.Allowed.{Told}
+use Rattle.ng_cli.specs.Causes.{EventsFailed}
 use Rattle.ng_cli.proofs.tests.surely.Goals as goal
 
+-- where no fetch fails, none of the events does
+no_events : (task : Task) (told : Told) (before after : Text → ℕ) → EventsFailed task told before after → ((name : Text) → Rose (before name) (after name) → ⊥) → ⊥
+no_events (Runs app events) told before after failed none = none events failed.0
+no_events (Checks app) told before after failed none = failed
+
 pub returns-clause-file : goal.returns-clause-file
-returns-clause-file c = λ h. elim (c.ivy.ensures.five h).rose [ inl r ↦ omega arith | inr r ↦ omega (arith, r.0) ]
+returns-clause-file c = λ h.
+    let f = c.ivy.ensures.five h in
+    elim f.rose [ inl r ↦ omega arith | inr r ↦ no_events f.task _ _ _ r (λ name rose. omega (arith, rose)) ]
 
 pub returns-clause-output : goal.returns-clause-output
 returns-clause-output c = λ h. let r = c.ivy.ensures.six h in omega arith
