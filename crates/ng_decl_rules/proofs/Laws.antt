@@ -1,7 +1,5 @@
 -- Laws of the breaks of lists of parts.
-use Rattle.std.proofs.Common.{◌≡◌, sym, ◌∙◌, ap, ℕ, ◌+◌, ◌<◌, ◌==◌, false, not, List, [], ◌∷◌, ◌++◌, append-nil, length, take, get_or, bytes_eq, Option}
-use Rattle.std.proofs.lemmas.List.{take_more}
-use Rattle.std.proofs.lemmas.Grind.{flat_map-append}
+use Rattle.std.proofs.Common.{◌≡◌, sym, ◌∙◌, ap, ◌+◌, ◌==◌, false, not, List, [], ◌∷◌, ◌++◌, length, bytes_eq, Option}
 use Rattle.std.specs.List.{flat_map}
 use Rattle.std.specs.HashMap.{HashMap, get}
 use Rattle.ng_ast.specs.declared.Decl.{Decl}
@@ -19,17 +17,6 @@ use Rattle.ng_decl_rules.specs.DeclRules.{root_breaks, starts_at}
 -- a map of the declared names, all at once
 pub names_of : {S : Type 0} (t : HashMap Name Declared S) (ds : List Decl) → IsIndex t ds → get bytes_eq t ≡ named ds
 names_of t ds index = λ i n. index n i
-
-flat_map_next : {A : Type 0} (f : A → List Refusal) (xs : List A) (i : ℕ) (x : A) → i < length xs → x ≡ get_or xs i x → flat_map f (take i xs) ++ f x ≡ flat_map f (take (i + 1) xs)
-flat_map_next f xs i x small is =
-    ap (λ r. flat_map f (take i xs) ++ r) (sym (append-nil (f x))) ∙ sym (flat_map-append f (take i xs) (x ∷ []))
-    ∙ ap (λ y. flat_map f (take i xs ++ y ∷ [])) is ∙ ap (flat_map f) (sym (take_more xs i x small))
-
--- the breaks of one part more
-pub least_next : {A : Type 0} (f : A → List Refusal) (xs : List A) (i : ℕ) (x : A) (first best new : Option Refusal) → i < length xs → x ≡ get_or xs i x
-    → best ≡ least_of first (flat_map f (take i xs)) → new ≡ least_of best (f x) → new ≡ least_of first (flat_map f (take (i + 1) xs))
-least_next f xs i x first best new small is so_far here =
-    here ∙ ap (λ b. least_of b (f x)) so_far ∙ sym (least_of-append first (flat_map f (take i xs)) (f x)) ∙ ap (least_of first) (flat_map_next f xs i x small is)
 
 -- the breaks of the `bootstrap`s, of which there are some
 pub root_some : (ds : List Decl) (boots : List Site) (names : Names) → names ≡ named ds → (length boots == 0) ≡ false

@@ -1,4 +1,4 @@
-pub mod Merging
 pub mod Positions
-pub mod Candidates
-pub mod Rows
+pub mod Adding
+pub mod Hits
+pub mod Found

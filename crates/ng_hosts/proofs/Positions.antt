@@ -5,7 +5,7 @@ use Rattle.ng_ast.specs.declared.TAttr.{TAttr}
 use Rattle.ng_ast.specs.declared.Component.{Component}
 use Rattle.ng_selectors.specs.Fits.{fits}
 use Rattle.ng_hosts.specs.Hosts.{Name, seen_attrs, is_reserved, hosts, when_at, positions, host_positions}
-use Rattle.ng_hosts.specs.ByTag.{component_at}
+use Rattle.ng_hosts.specs.Index.{component_at}
 
 pub at_front : (front cs : List Component) (c : Component) → component_at (front ++ c ∷ cs) (length front) ≡ c ∷ []
 at_front [] cs c = refl

@@ -1,16 +1,16 @@
 //! The components that an element matches.
 
-ghost use Rattle.std.specs.Prelude.{◌≡◌, ◌++◌, [], ◌∷◌, map, filter, slice_get, bytes_eq, OnOk, IfOk};
+ghost use Rattle.std.specs.Prelude.{◌≡◌, ◌++◌, [], ◌∷◌, map, slice_get, OnOk, IfOk};
 ghost use Rattle.std.specs.List.{flat_map};
-ghost use Rattle.std.specs.HashMap.{get};
 ghost use Rattle.std.specs.Option.{option_map};
 ghost use Rattle.ng_hosts.specs.Hosts as spec;
-ghost use Rattle.ng_hosts.specs.ByTag.{IsIndex, fits_at, merge, row};
-ghost use Rattle.ng_hosts.specs.ByTag.{component_at as spec_at};
+ghost use Rattle.ng_hosts.specs.Index.{IsIndex};
+ghost use Rattle.ng_hosts.specs.Index.{component_at as spec_at};
 
-use crate::tags::{ByTag, candidates};
+use crate::index::SelectorIndex;
+use crate::search::{rising, search};
 use ng_ast::{AttrForm, Component, TAttr};
-use ng_selectors::{Attr, matches};
+use ng_selectors::Attr;
 use ng_values::NgText;
 use std::alloc::{AllocError, Global};
 
@@ -94,42 +94,18 @@ fn seen_attrs(alloc: Global, attrs: &[TAttr]) -> Result<Vec<Attr>, AllocError>
     Ok(seen)
 }
 
-fn fits_at(components: &[&Component], tag: &NgText, seen: &[Attr], at: usize) -> bool
-    ensures { result ≡ fits_at (map (λ c. c.now) components.now) tag.now seen.now at }
-{
-    match components.get(at) {
-        None => false,
-        Some(component) => matches(&component.selector, tag.as_str(), seen),
-    }
-}
-
-fn fitting(
-    alloc: Global,
-    components: &[&Component],
-    positions: &[usize],
-    tag: &NgText,
-    seen: &[Attr],
-) -> Result<Vec<usize>, AllocError>
-    ensures { IfOk result (λ found. found.items ≡ filter (fits_at (map (λ c. c.now) components.now) tag.now seen.now) positions.now) }
-{
-    positions
-        .iter()
-        .copied()
-        .filter(|at| fits_at(components, tag, seen, *at))
-        .collect(alloc)
-}
-
 /// The positions in `components`, rising, of those whose selector an element of this tag with these attributes matches; the three reserved
 /// tags match none. A selector sees the static attributes with their values, and with the empty value the names of interpolated attributes,
 /// of bindings to properties, of listeners and of two-way bindings (`[(x)]` as `x` and as `xChange`); it sees no other attribute. The only
 /// error is want of memory.
 ///
-/// The element is tried against the components that have its tag in their selectors, and those of which an alternative has no tag.
-#[tactic(auto, using(crate::proofs::Candidates::positions_are))]
+/// The element is tried against the alternatives that stand by its attributes, the words of its classes and its tag, and those without a
+/// mark. Each alternative stands by the one of its marks that the fewest alternatives bear. So the cost is that of these alternatives,
+/// and the logarithm of the matches for each.
 pub fn host_positions(
     alloc: Global,
     components: &[&Component],
-    index: &ByTag,
+    index: &SelectorIndex,
     tag: &NgText,
     attrs: &[TAttr],
 ) -> Result<Vec<usize>, AllocError>
@@ -139,15 +115,9 @@ pub fn host_positions(
     if is_reserved(tag) {
         return Ok(Vec::new(alloc));
     }
-    let positions = candidates(alloc, index, tag)?;
     let seen = seen_attrs(alloc, attrs)?;
-    fitting(
-        alloc,
-        components,
-        positions.as_slice(),
-        tag,
-        seen.as_slice(),
-    )
+    let found = search(alloc, components, index, tag, seen.as_slice())?;
+    rising(alloc, &found)
 }
 
 fn component_at<'a>(components: &[&'a Component], at: usize) -> Option<&'a Component>
@@ -194,7 +164,7 @@ fn push_components<'a>(
 pub fn hosts_of<'a>(
     alloc: Global,
     components: &[&'a Component],
-    index: &ByTag,
+    index: &SelectorIndex,
     tag: &NgText,
     attrs: &[TAttr],
 ) -> Result<Vec<&'a Component>, AllocError>

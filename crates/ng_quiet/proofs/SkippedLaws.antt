@@ -1,5 +1,6 @@
 -- The marks of the search are those of the components whose check may be left out.
 use Rattle.std.proofs.Common.{◌≡◌, refl, sym, ◌∙◌, ap, subst, ℕ, zero, suc, ◌+◌, Bool, true, false, List, [], ◌∷◌, length, map, inl, inr, Option, Some, None, slice_get, arith}
+use Rattle.std.specs.Prelude.{Result, Ok, Err, IfOk}
 use Rattle.std.specs.Option.{option_to_list}
 use Rattle.ng_graph.specs.Walk.{In, Graph, Walk}
 use Rattle.ng_ast.specs.declared.TNode.{TNode, out-TNode}
@@ -9,7 +10,7 @@ use Rattle.ng_ast.specs.declared.Branch.{Branch}
 use Rattle.ng_ast.specs.declared.Component.{Component}
 use Rattle.ng_ast.specs.Nodes.{all_nodes}
 use Rattle.ng_hosts.specs.Hosts.{Name, hosts, when_at, positions, host_positions}
-use Rattle.ng_hosts.specs.ByTag.{component_at}
+use Rattle.ng_hosts.specs.Index.{component_at}
 use Rattle.ng_hosts.proofs.Positions.{hosts_at}
 use Rattle.ng_quiet.specs.Reached.{IsReached, MarksReached}
 use Rattle.ng_quiet.specs.Quiet.{layer_hosts, used_by, MayBeSkipped}
@@ -136,6 +137,11 @@ marks_skipped cs marks m = record {
       (q.0, q.1, m.complete q.0 (get_small (used_graph cs) q.0 (used_positions cs c) (map_get (used_positions cs) cs q.0 c q.1)) q.2);
 }
 
--- the marks are those of the components whose check may be left out
-pub skipped_are : (cs : List Component) (g : Graph) (starts : List ℕ) (marks : List Bool) → g ≡ used_graph cs → starts ≡ first_ones cs → MarksReached g starts marks → MarksSkipped cs marks
+skipped_are : (cs : List Component) (g : Graph) (starts : List ℕ) (marks : List Bool) → g ≡ used_graph cs → starts ≡ first_ones cs → MarksReached g starts marks → MarksSkipped cs marks
 skipped_are cs g starts marks e f m = marks_skipped cs marks (subst (λ (z : Graph). MarksReached z (first_ones cs) marks) e (subst (λ (z : List ℕ). MarksReached g z marks) f m))
+
+-- the marks, if there was memory for them, are those of the components whose check may be left out
+pub answers_skipped : {A E : Type 0} (marks : A → List Bool) (cs : List Component) (g : Graph) (starts : List ℕ) (r : Result A E) → g ≡ used_graph cs → starts ≡ first_ones cs → IfOk r (λ m. MarksReached g starts (marks m))
+    → IfOk r (λ m. MarksSkipped cs (marks m))
+answers_skipped marks cs g starts (Ok m) e f h = skipped_are cs g starts (marks m) e f h
+answers_skipped marks cs g starts (Err x) e f h = tt

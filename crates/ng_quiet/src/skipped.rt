@@ -2,7 +2,7 @@
 
 ghost use Rattle.std.specs.Prelude.{◌≡◌, ◌++◌, map, OnOk, IfOk};
 ghost use Rattle.std.specs.List.{flat_map};
-ghost use Rattle.ng_hosts.specs.ByTag.{IsIndex};
+ghost use Rattle.ng_hosts.specs.Index.{IsIndex};
 ghost use Rattle.ng_hosts.specs.Hosts.{positions};
 ghost use Rattle.ng_parts.specs.Flat.{pointed};
 ghost use Rattle.ng_quiet.specs.Used as spec;
@@ -10,7 +10,7 @@ ghost use Rattle.ng_quiet.specs.Used as spec;
 use crate::positions::push_if;
 use crate::reached::reached;
 use ng_ast::{Component, TNode};
-use ng_hosts::{ByTag, by_tag, host_positions};
+use ng_hosts::{SelectorIndex, host_positions, selector_index};
 use ng_parts::nodes_of;
 use sqlite_items::Items;
 use std::alloc::{AllocError, Global};
@@ -20,7 +20,7 @@ use std::alloc::{AllocError, Global};
 fn push_used(
     alloc: Global,
     components: &[&Component],
-    index: &ByTag,
+    index: &SelectorIndex,
     node: &TNode,
     row: &mut Vec<usize>,
 ) -> Result<(), AllocError>
@@ -44,7 +44,7 @@ fn push_used(
 fn push_all(
     alloc: Global,
     components: &[&Component],
-    index: &ByTag,
+    index: &SelectorIndex,
     nodes: &[&TNode],
     row: &mut Vec<usize>,
 ) -> Result<(), AllocError>
@@ -61,7 +61,7 @@ fn push_all(
 fn used_by(
     alloc: Global,
     components: &[&Component],
-    index: &ByTag,
+    index: &SelectorIndex,
     component: &Component,
 ) -> Result<Items<usize>, AllocError>
     requires { IsIndex index.now (map (λ c. c.now) components.now) }
@@ -77,7 +77,7 @@ fn used_by(
 fn used_graph(
     alloc: Global,
     components: &[&Component],
-    index: &ByTag,
+    index: &SelectorIndex,
 ) -> Result<Vec<Items<usize>>, AllocError>
     requires { IsIndex index.now (map (λ c. c.now) components.now) }
     ensures { IfOk result (λ graph. graph.items ≡ spec.used_graph (map (λ c. c.now) components.now)) }
@@ -101,11 +101,10 @@ fn on_push(alloc: Global, components: &[&Component]) -> Result<Vec<usize>, Alloc
 }
 
 /// A mark for each component, which the OnPush ones have and those that the template of a marked one uses.
-#[tactic(auto, using(crate::proofs::SkippedLaws::skipped_are))]
 pub(crate) fn skipped(alloc: Global, components: &[&Component]) -> Result<Vec<bool>, AllocError>
     ensures { IfOk result (λ marks. spec.MarksSkipped (map (λ c. c.now) components.now) marks.items) }
 {
-    let index = by_tag(alloc, components)?;
+    let index = selector_index(alloc, components)?;
     let graph = used_graph(alloc, components, &index)?;
     let starts = on_push(alloc, components)?;
     reached(alloc, graph.as_slice(), starts.as_slice())

@@ -78,9 +78,11 @@ fn parts_fit(parts: &[SelPart], tag: &str, attrs: &[Attr]) -> bool
     true
 }
 
+/// Whether an element with this tag and these attributes is one that the alternative means: it has no tag or this one, and each of
+/// its parts holds, as [`matches`] says.
 #[tactic(auto, using(crate::specs::FitsLaws::one_fits_is))]
 #[cycle(fits)]
-fn one_fits(one: &One, tag: &str, attrs: &[Attr]) -> bool
+pub fn one_fits(one: &One, tag: &str, attrs: &[Attr]) -> bool
     ensures { result ≡ spec.one_fits tag.now attrs.now one.now }
 {
     tag_fits(tag, &one.tag) && parts_fit(one.parts.as_slice(), tag, attrs)

@@ -15,7 +15,7 @@ ghost use Rattle.ng_selectors.specs.Grammar.{ReadsSelector};
 ghost use Rattle.ng_selectors.specs.Parse.{selector_of};
 ghost use Rattle.ng_selectors.specs.Reading.{Refuses, IsUnlimited, IsOrMemory};
 
-pub use fits::matches;
+pub use fits::{matches, one_fits};
 use halt::Halt;
 use ng_ast::{Place, ReadError, Refusal, Rule, Selector};
 use ng_values::NgText;
@@ -49,12 +49,8 @@ pub fn read_selector(alloc: Global, text: &str, base: Place) -> Result<Selector,
     match parse::selector(alloc, text) {
         Ok(selector) => Ok(selector),
         Err(Halt::Syntax) => {
-            let name = NgText::new(alloc, "")?;
-            Err(ReadError::Syntax(Refusal {
-                rule: Rule::Syntax,
-                place: base,
-                name,
-            }))
+            let refusal = Refusal::nameless(alloc, Rule::Syntax, base)?;
+            Err(ReadError::Syntax(refusal))
         }
         Err(Halt::Memory) => Err(ReadError::Memory),
     }

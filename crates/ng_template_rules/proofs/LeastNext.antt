@@ -1,35 +1,21 @@
--- The breaks of one part more.
-use Rattle.std.proofs.Common.{◌≡◌, refl, sym, ◌∙◌, ap, ℕ, ◌+◌, ◌<◌, List, [], ◌∷◌, ◌++◌, append-nil, length, take, get_or, map, Option}
-use Rattle.std.proofs.lemmas.List.{take_more}
-use Rattle.std.proofs.lemmas.Grind.{flat_map-append}
+-- The breaks of one part more of a list of references.
+use Rattle.std.proofs.Common.{◌≡◌, refl, sym, ◌∙◌, ap, ℕ, ◌+◌, ◌<◌, List, [], ◌∷◌, ◌++◌, length, take, get_or, map, Option}
 use Rattle.std.specs.Borrow.{Bor}
 use Rattle.std.specs.List.{flat_map}
 use Rattle.ng_ast.specs.declared.Component.{Component}
 use Rattle.ng_ast.specs.declared.refusals.Refusal.{Refusal}
 use Rattle.ng_breaks.specs.Least.{least_of}
-use Rattle.ng_breaks.specs.LeastLaws.{least_of-append}
+use Rattle.ng_breaks.specs.LeastLaws.{least_next}
 
 -- the components that references point to
 abbrev pub targets : List (Bor Component) → List Component
 targets = map (λ r. r.now)
 
--- one part more of a list
-pub flat_map_next : {A B : Type 0} (f : A → List B) (xs : List A) (i : ℕ) (x : A) → i < length xs → x ≡ get_or xs i x → flat_map f (take i xs) ++ f x ≡ flat_map f (take (i + 1) xs)
-flat_map_next f xs i x small is =
-    ap (λ r. flat_map f (take i xs) ++ r) (sym (append-nil (f x))) ∙ sym (flat_map-append f (take i xs) (x ∷ []))
-    ∙ ap (λ y. flat_map f (take i xs ++ y ∷ [])) is ∙ ap (flat_map f) (sym (take_more xs i x small))
-
--- the breaks of one part more
-pub least_next : {A : Type 0} (f : A → List Refusal) (xs : List A) (i : ℕ) (x : A) (first best new : Option Refusal) → i < length xs → x ≡ get_or xs i x
-    → best ≡ least_of first (flat_map f (take i xs)) → new ≡ least_of best (f x) → new ≡ least_of first (flat_map f (take (i + 1) xs))
-least_next f xs i x first best new small is so_far here =
-    here ∙ ap (λ b. least_of b (f x)) so_far ∙ sym (least_of-append first (flat_map f (take i xs)) (f x)) ∙ ap (least_of first) (flat_map_next f xs i x small is)
-
 pub flat_map-map : {X Y A : Type 0} (f : Y → List A) (g : X → Y) (xs : List X) → flat_map f (map g xs) ≡ flat_map (λ x. f (g x)) xs
 flat_map-map f g [] = refl
 flat_map-map f g (x ∷ xs) = ap (λ r. f (g x) ++ r) (flat_map-map f g xs)
 
--- the same at a list of references
+-- the least with the breaks of one part more of a list of references
 pub pointed_next : {A : Type 0} (f : A → List Refusal) (xs : List (Bor A)) (i : ℕ) (x : Bor A) (first best new : Option Refusal) → i < length xs → x ≡ get_or xs i x
     → best ≡ least_of first (flat_map f (map (λ r. r.now) (take i xs))) → new ≡ least_of best (f x.now) → new ≡ least_of first (flat_map f (map (λ r. r.now) (take (i + 1) xs)))
 pointed_next f xs i x first best new small is so_far here =

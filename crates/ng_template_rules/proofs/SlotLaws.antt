@@ -16,8 +16,8 @@ use Rattle.ng_ast.specs.declared.refusals.Refusal.{Refusal}
 use Rattle.ng_ast.specs.Inner.{optional_nodes}
 use Rattle.ng_parts.specs.Sites.{Name}
 use Rattle.ng_breaks.specs.Least.{least_of}
-use Rattle.ng_breaks.specs.LeastLaws.{least_of-append}
-use Rattle.ng_template_rules.proofs.LeastNext.{flat_map-map, flat_map_next}
+use Rattle.ng_breaks.specs.LeastLaws.{least_of-append, flat_map_next}
+use Rattle.ng_template_rules.proofs.LeastNext.{flat_map-map}
 use Rattle.ng_template_rules.specs.TemplateRules.{Slotted, slotted, branch_slotted, slotted_step, slotted_branch, all_slots, all_twice, together, apart, slots, twice, twice_in, own_slots, slot_breaks}
 
 flat_map-same : {X A : Type 0} (f g : X → List A) (xs : List X) → ((x : X) → f x ≡ g x) → flat_map f xs ≡ flat_map g xs

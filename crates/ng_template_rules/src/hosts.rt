@@ -3,7 +3,7 @@
 ghost use Rattle.std.specs.Prelude.{◌≡◌, map, OnOk};
 ghost use Rattle.std.specs.Option.{option_copied};
 ghost use Rattle.ng_breaks.specs.Least.{least_of};
-ghost use Rattle.ng_hosts.specs.ByTag.{IsIndex};
+ghost use Rattle.ng_hosts.specs.Index.{IsIndex};
 ghost use Rattle.ng_hosts.specs.Hosts.{hosts as hosts_among};
 ghost use Rattle.ng_template_rules.specs.ElementRules as element;
 
@@ -11,7 +11,7 @@ use crate::allowed::judge_allowed;
 use crate::elements::{judge_attr_repeats, judge_inputs, judge_outputs, judge_required};
 use ng_ast::{Component, Place, Refusal, Rule, TAttr};
 use ng_breaks::offer;
-use ng_hosts::{ByTag, hosts_of, is_reserved};
+use ng_hosts::{SelectorIndex, hosts_of, is_reserved};
 use ng_values::NgText;
 use std::alloc::{AllocError, Global};
 
@@ -83,7 +83,7 @@ fn judge_element(
 pub(crate) fn judge_host(
     alloc: Global,
     components: &[&Component],
-    index: &ByTag,
+    index: &SelectorIndex,
     place: Place,
     tag: &NgText,
     attrs: &[TAttr],

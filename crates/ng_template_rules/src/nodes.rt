@@ -8,7 +8,7 @@ ghost use Rattle.ng_ast.specs.declared.refusals.Rule.TheVariants as rule;
 ghost use Rattle.ng_parts.specs.Flat.{pointed};
 ghost use Rattle.ng_parts.specs.Sites.{repeats};
 ghost use Rattle.ng_breaks.specs.Least.{broken, least_of, of_rule};
-ghost use Rattle.ng_hosts.specs.ByTag.{IsIndex};
+ghost use Rattle.ng_hosts.specs.Index.{IsIndex};
 ghost use Rattle.ng_template_rules.specs.TemplateRules as spec;
 ghost use Rattle.ng_template_rules.specs.TemplateRules.{content_breaks, node_breaks};
 
@@ -17,7 +17,7 @@ use crate::hosts::judge_host;
 use crate::slots::judge_slots;
 use ng_ast::{Branch, Component, ForHead, Place, Refusal, Rule, TAttr, TNode};
 use ng_breaks::{judge_repeats, offer};
-use ng_hosts::ByTag;
+use ng_hosts::SelectorIndex;
 use ng_parts::{Site, nodes_of, push_if, repeated_nodes};
 use ng_scopes::{Known, Meaning, branch_names, inner_names, row_names, view_names};
 use ng_values::NgText;
@@ -221,7 +221,7 @@ fn judge_for(
 fn judge_node(
     alloc: Global,
     components: &[&Component],
-    index: &ByTag,
+    index: &SelectorIndex,
     owner: &NgText,
     node: &TNode,
     best: &mut Option<Refusal>,
@@ -265,7 +265,7 @@ fn judge_node(
 fn judge_each(
     alloc: Global,
     components: &[&Component],
-    index: &ByTag,
+    index: &SelectorIndex,
     owner: &NgText,
     nodes: &[&TNode],
     best: &mut Option<Refusal>,
@@ -284,7 +284,7 @@ fn judge_each(
 pub(crate) fn judge_template(
     alloc: Global,
     components: &[&Component],
-    index: &ByTag,
+    index: &SelectorIndex,
     owner: &NgText,
     nodes: &[TNode],
     best: &mut Option<Refusal>,

@@ -3,18 +3,18 @@
 ghost use Rattle.std.specs.Prelude.{◌≡◌, map, OnOk};
 ghost use Rattle.std.specs.List.{flat_map};
 ghost use Rattle.ng_breaks.specs.Least.{least_of};
-ghost use Rattle.ng_hosts.specs.ByTag.{IsIndex};
+ghost use Rattle.ng_hosts.specs.Index.{IsIndex};
 ghost use Rattle.ng_template_rules.specs.TemplateRules as spec;
 
 use crate::nodes::judge_template;
 use ng_ast::{Component, Decl, Refusal};
-use ng_hosts::{ByTag, by_tag, components_of};
+use ng_hosts::{SelectorIndex, components_of, selector_index};
 use std::alloc::{AllocError, Global};
 
 fn judge_each(
     alloc: Global,
     components: &[&Component],
-    index: &ByTag,
+    index: &SelectorIndex,
     best: &mut Option<Refusal>,
 ) -> Result<(), AllocError>
     requires { IsIndex index.now (map (λ c. c.now) components.now) }
@@ -46,9 +46,9 @@ fn judge_each(
 /// What they speak of is after Angular's templates (<https://angular.dev/guide/templates>) and content projection
 /// (<https://angular.dev/guide/components/content-projection>); the rules as they are divided and numbered are this project's own.
 ///
-/// An element is tried against the components that have its tag in their selectors, and those of which an alternative has no tag. Besides,
-/// the time is linear in the nodes, times the depth of `@for`s and `ng-template`s in one another, the members of a host for each
-/// attribute, and the slots of the template for each `ng-content`.
+/// An element is tried against the alternatives of selectors that stand by its attributes, its classes or its tag, as
+/// `ng_hosts::host_positions` tells. Besides, the time is linear in the nodes, times the depth of `@for`s and `ng-template`s in one
+/// another, the members of a host for each attribute, and the slots of the template for each `ng-content`.
 pub fn judge_templates(
     alloc: Global,
     decls: &[Decl],
@@ -57,7 +57,7 @@ pub fn judge_templates(
     ensures { OnOk result (best.new ≡ least_of best.old (spec.templates_breaks decls.now)) }
 {
     let components = components_of(alloc, decls)?;
-    let index = by_tag(alloc, components.as_slice())?;
+    let index = selector_index(alloc, components.as_slice())?;
     judge_each(alloc, components.as_slice(), &index, best)?;
     Ok(())
 }

@@ -1,6 +1,6 @@
 -- The forms of an application that can't be run yet, each with its place: that of the smallest declaration, member, node of a template,
 -- attribute or interpolation that holds it. What can be run is an application of the first form (`ng_semantics`, `First`).
-use Rattle.std.specs.Prelude.{Bool, true, false, not, ◌&&◌, ◌||◌, nat_le, List, [], ◌∷◌, ◌++◌, map, Option, Some, None, is_none}
+use Rattle.std.specs.Prelude.{Bool, true, false, not, ◌&&◌, ◌||◌, nat_le, List, [], ◌∷◌, ◌++◌, map, Option, Some, None}
 use Rattle.std.specs.List.{flat_map}
 use Rattle.ng_ast.specs.declared.App.{App}
 use Rattle.ng_ast.specs.declared.Place.{Place}
@@ -9,7 +9,7 @@ use Rattle.ng_ast.specs.declared.Decl.TheVariants as decl
 use Rattle.ng_ast.specs.declared.Component.{Component}
 use Rattle.ng_ast.specs.declared.One.{One}
 use Rattle.ng_ast.specs.declared.Member.{Member}
-use Rattle.ng_ast.specs.declared.Expr.{Expr, out-Expr}
+use Rattle.ng_ast.specs.declared.Expr.{out-Expr}
 use Rattle.ng_ast.specs.declared.Piece.{Piece}
 use Rattle.ng_ast.specs.declared.Piece.TheVariants as piece
 use Rattle.ng_ast.specs.declared.TAttr.{TAttr}
@@ -19,7 +19,7 @@ use Rattle.ng_ast.specs.declared.Branch.{Branch}
 use Rattle.ng_ast.specs.Nodes.{all_nodes}
 use Rattle.ng_semantics.specs.Text.{Text}
 use Rattle.ng_semantics.specs.First.{is_root_tag, is_element_tag, is_whole, names_of, is_field, is_click, bytes_in, is_literal}
-use Rattle.ng_unbuilt.specs.Least.{when, least}
+use Rattle.ng_unbuilt.specs.Least.{when}
 
 -- a member that is no field with a whole number
 abbrev pub member_forms : Member → List Place

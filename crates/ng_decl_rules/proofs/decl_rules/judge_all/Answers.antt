@@ -1,7 +1,7 @@
 use Rattle.std.proofs.Common.{bytes_eq}
 use Rattle.std.specs.HashMap.{get}
 use Rattle.ng_decl_rules.specs.DeclRules.{each_breaks}
-use Rattle.ng_decl_rules.proofs.Laws.{least_next}
+use Rattle.ng_breaks.specs.LeastLaws.{least_next}
 use Rattle.ng_decl_rules.proofs.decl_rules.judge_all.Goals as goal
 
 pub loop-decl-preserved : goal.loop-decl-preserved

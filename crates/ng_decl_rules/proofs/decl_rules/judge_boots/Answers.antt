@@ -3,7 +3,7 @@ use Rattle.std.specs.HashMap.{get}
 use Rattle.ng_ast.specs.declared.refusals.Rule.TheVariants as rule
 use Rattle.ng_breaks.specs.Least.{broken, least_of}
 use Rattle.ng_decl_rules.specs.DeclRules.{starts_at}
-use Rattle.ng_decl_rules.proofs.Laws.{least_next}
+use Rattle.ng_breaks.specs.LeastLaws.{least_next}
 use Rattle.ng_decl_rules.proofs.decl_rules.judge_boots.Goals as goal
 
 pub loop-boot-preserved : goal.loop-boot-preserved

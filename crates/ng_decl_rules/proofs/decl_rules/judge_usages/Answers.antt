@@ -2,7 +2,7 @@ use Rattle.std.proofs.Common.{◌∙◌, ap, bytes_eq}
 use Rattle.std.specs.HashMap.{get}
 use Rattle.ng_breaks.specs.Least.{least_of}
 use Rattle.ng_breaks.specs.NameRules.{usage_breaks}
-use Rattle.ng_decl_rules.proofs.Laws.{least_next}
+use Rattle.ng_breaks.specs.LeastLaws.{least_next}
 use Rattle.ng_decl_rules.proofs.decl_rules.judge_usages.Goals as goal
 
 pub loop-usage-preserved : goal.loop-usage-preserved

@@ -1,6 +1,6 @@
 use Rattle.std.proofs.Common.{◌≡◌, ◌++◌, map, take}
 use Rattle.std.specs.List.{flat_map}
-use Rattle.ng_hosts.specs.ByTag.{component_at}
+use Rattle.ng_hosts.specs.Index.{component_at}
 use Rattle.ng_hosts.proofs.hosts.push_components.Given as goal
 
 abbrev pub invariant-loop-at : goal.invariant-loop-at

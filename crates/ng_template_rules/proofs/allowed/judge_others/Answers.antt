@@ -2,7 +2,7 @@ use Rattle.std.proofs.Common.{◌∙◌, ap, not}
 use Rattle.ng_ast.specs.declared.refusals.Rule.TheVariants as rule
 use Rattle.ng_breaks.specs.Least.{broken, least_of}
 use Rattle.ng_template_rules.specs.ElementRules.{is_allowed}
-use Rattle.ng_template_rules.proofs.LeastNext.{least_next}
+use Rattle.ng_breaks.specs.LeastLaws.{least_next}
 use Rattle.ng_template_rules.proofs.allowed.judge_others.Goals as goal
 
 pub loop-attr-preserved : goal.loop-attr-preserved

@@ -4,7 +4,7 @@ use Rattle.ng_ast.specs.declared.refusals.Rule.TheVariants as rule
 use Rattle.ng_breaks.specs.Least.{broken, least_of}
 use Rattle.ng_template_rules.specs.ElementRules.{has_input}
 use Rattle.ng_template_rules.specs.Tables.{is_property}
-use Rattle.ng_template_rules.proofs.LeastNext.{least_next}
+use Rattle.ng_breaks.specs.LeastLaws.{least_next}
 use Rattle.ng_template_rules.proofs.elements.judge_bound.Goals as goal
 
 pub loop-site-preserved : goal.loop-site-preserved

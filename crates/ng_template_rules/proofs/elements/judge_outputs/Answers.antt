@@ -1,6 +1,6 @@
 use Rattle.std.specs.Option.{option_copied}
 use Rattle.ng_template_rules.specs.ElementRules.{output_break}
-use Rattle.ng_template_rules.proofs.LeastNext.{least_next}
+use Rattle.ng_breaks.specs.LeastLaws.{least_next}
 use Rattle.ng_template_rules.proofs.elements.judge_outputs.Goals as goal
 
 pub loop-attr-preserved : goal.loop-attr-preserved

@@ -1,5 +1,5 @@
 use Rattle.ng_template_rules.specs.TemplateRules.{branch_breaks}
-use Rattle.ng_template_rules.proofs.LeastNext.{least_next}
+use Rattle.ng_breaks.specs.LeastLaws.{least_next}
 use Rattle.ng_template_rules.proofs.nodes.judge_branches.Goals as goal
 
 pub loop-branch-preserved : goal.loop-branch-preserved

@@ -2,7 +2,7 @@ use Rattle.std.proofs.Common.{◌∙◌, ◌++◌, ap, arith}
 use Rattle.std.specs.List.{flat_map}
 use Rattle.ng_breaks.specs.Least.{least_of}
 use Rattle.ng_template_rules.specs.TemplateRules.{slots, twice_in}
-use Rattle.ng_template_rules.proofs.LeastNext.{flat_map_next, least_next}
+use Rattle.ng_breaks.specs.LeastLaws.{flat_map_next, least_next}
 use Rattle.ng_template_rules.proofs.SlotLaws.{nodes_seen, nodes_best}
 use Rattle.ng_template_rules.proofs.slots.+slots.Goals as goal
 

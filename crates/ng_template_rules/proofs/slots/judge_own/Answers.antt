@@ -2,7 +2,7 @@ use Rattle.std.proofs.Common.{◌∙◌, ap}
 use Rattle.ng_ast.specs.declared.refusals.Rule.TheVariants as rule
 use Rattle.ng_parts.specs.Sites.{is_among}
 use Rattle.ng_breaks.specs.Least.{broken, least_of}
-use Rattle.ng_template_rules.proofs.LeastNext.{least_next}
+use Rattle.ng_breaks.specs.LeastLaws.{least_next}
 use Rattle.ng_template_rules.proofs.slots.judge_own.Goals as goal
 
 pub loop-name-preserved : goal.loop-name-preserved
