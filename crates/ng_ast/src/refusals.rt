@@ -1,10 +1,10 @@
 //! Why a text isn't read.
 
-ghost use Rattle.std.specs.Prelude.{◌≡◌};
+ghost use Rattle.std.specs.Prelude.{◌≡◌, [], IfOk};
 
 use crate::Place;
 use ng_values::NgText;
-use std::alloc::{AllocError, AllocFailed};
+use std::alloc::{AllocError, AllocFailed, Global};
 
 /// What a refused text breaks: its grammar, a limit, or a rule of applications by its number.
 #[derive(Clone, Copy, Debug, PartialEq, Eq)]
@@ -49,6 +49,16 @@ pub struct Refusal {
     pub rule: Rule,
     pub place: Place,
     pub name: NgText,
+}
+
+impl Refusal {
+    /// The refusal by `rule` at `place` that names nothing. The error is want of memory.
+    pub fn nameless(alloc: Global, rule: Rule, place: Place) -> Result<Refusal, AllocError>
+        ensures { IfOk result (λ f. (f.rule ≡ rule) × (f.place ≡ place) × (f.name ≡ [])) }
+    {
+        let name = NgText::new(alloc, "")?;
+        Ok(Refusal { rule, place, name })
+    }
 }
 
 /// Why a text isn't read: its bytes aren't UTF-8, it has no reading, it passes a limit, or memory is wanting.

@@ -109,3 +109,12 @@ fn copies_an_application(rt: HostRuntime) -> Result<(), Fail> {
     }
     Ok(())
 }
+
+#[test]
+fn a_nameless_refusal_names_nothing(rt: HostRuntime) -> Result<(), Fail> {
+    let refusal = Refusal::nameless(rt.alloc(), Rule::Limit, place(7))?;
+    assert!(rt; refusal.rule == Rule::Limit);
+    assert_eq!(rt; refusal.place.byte, 7);
+    assert_eq!(rt; refusal.name.as_str(), "");
+    Ok(())
+}

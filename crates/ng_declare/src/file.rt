@@ -1,6 +1,6 @@
 //! A whole file: UTF-8, with or without a byte order mark.
 
-ghost use Rattle.std.specs.Prelude.{◌≡◌, ◌≤◌, ◌↔◌, [], List, ℕ, length, IsUtf8, IfOk, IfErr, Err};
+ghost use Rattle.std.specs.Prelude.{◌≡◌, ◌≤◌, ◌↔◌, List, ℕ, length, IsUtf8, IfOk, IfErr, Err};
 ghost use Rattle.ng_ast.specs.declared.refusals.ReadError.TheVariants as error;
 ghost use Rattle.ng_exprs.specs.Reading.{IsOrMemory, Refused};
 ghost use Rattle.ng_declare.specs.declared.entries.Entry.{Entry as E};
@@ -12,9 +12,8 @@ use crate::declarations::file;
 use crate::entries::Entry;
 use crate::halt::Halt;
 use ng_ast::{Place, ReadError, Refusal, Rule};
-use ng_values::NgText;
 use sqlite_items::Items;
-use std::alloc::{AllocError, Global};
+use std::alloc::Global;
 
 fn has_mark(bytes: &[u8]) -> bool
     ensures { result ≡ is_marked bytes.now }
@@ -58,22 +57,15 @@ fn first_cursor(alloc: Global, text: &str) -> Cursor<'_>
     }
 }
 
-fn refusal(alloc: Global, rule: Rule, place: Place) -> Result<Refusal, AllocError>
-    ensures { IfOk result (λ f. (f.rule ≡ rule) × (f.name ≡ [])) }
-{
-    let name = NgText::new(alloc, "")?;
-    Ok(Refusal { rule, place, name })
-}
-
 fn refused(alloc: Global, halt: Halt) -> ReadError
     ensures { Tells halt result }
 {
     match halt {
-        Halt::Syntax(place) => match refusal(alloc, Rule::Syntax, place) {
+        Halt::Syntax(place) => match Refusal::nameless(alloc, Rule::Syntax, place) {
             Ok(refusal) => ReadError::Syntax(refusal),
             Err(_) => ReadError::Memory,
         },
-        Halt::Limit(place) => match refusal(alloc, Rule::Limit, place) {
+        Halt::Limit(place) => match Refusal::nameless(alloc, Rule::Limit, place) {
             Ok(refusal) => ReadError::Limit(refusal),
             Err(_) => ReadError::Memory,
         },

@@ -10,7 +10,7 @@ mod listen;
 mod parse;
 mod tokens;
 
-ghost use Rattle.std.specs.Prelude.{◌≡◌, ℕ, ◌≤◌, List, [], length, Bool, IfOk, IfErr};
+ghost use Rattle.std.specs.Prelude.{◌≡◌, ℕ, ◌≤◌, List, length, Bool, IfOk, IfErr};
 ghost use Rattle.ng_ast.specs.declared.Expr.{Expr};
 ghost use Rattle.ng_ast.specs.declared.Place.{Place};
 ghost use Rattle.ng_tokens.specs.Scan as lexer;
@@ -23,8 +23,7 @@ use halt::Halt;
 pub use listen::{one_listener, read_listener};
 use ng_ast::{Expr, Place, ReadError, Refusal, Rule};
 use ng_tokens::{ScanError, scan, steps};
-use ng_values::NgText;
-use std::alloc::{AllocError, Global};
+use std::alloc::Global;
 use tokens::Tokens;
 
 // The tokens that an expression may have.
@@ -33,22 +32,15 @@ const MAX_TOKENS: usize = 256;
 // One more than the brackets that may be open.
 const DEPTH: usize = 33;
 
-fn refusal(alloc: Global, rule: Rule, place: Place) -> Result<Refusal, AllocError>
-    ensures { IfOk result (λ f. (f.rule ≡ rule) × (f.name ≡ [])) }
-{
-    let name = NgText::new(alloc, "")?;
-    Ok(Refusal { rule, place, name })
-}
-
 fn refused(alloc: Global, halt: Halt) -> ReadError
     ensures { Tells halt result }
 {
     match halt {
-        Halt::Syntax(place) => match refusal(alloc, Rule::Syntax, place) {
+        Halt::Syntax(place) => match Refusal::nameless(alloc, Rule::Syntax, place) {
             Ok(refusal) => ReadError::Syntax(refusal),
             Err(_) => ReadError::Memory,
         },
-        Halt::Limit(place) => match refusal(alloc, Rule::Limit, place) {
+        Halt::Limit(place) => match Refusal::nameless(alloc, Rule::Limit, place) {
             Ok(refusal) => ReadError::Limit(refusal),
             Err(_) => ReadError::Memory,
         },

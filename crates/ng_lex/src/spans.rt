@@ -3,7 +3,6 @@
 ghost use Rattle.std.specs.Prelude.{◌≡◌, ℕ, ◌^◌, ◌<◌, ◌≤◌, List, [], ◌∷◌, ◌++◌, length, take, drop, Some, IfSome, IfOk, IfErr};
 ghost use Rattle.std.specs.Str.{IsCharBoundary};
 ghost use Rattle.ng_ast.specs.declared.Place.{Place};
-ghost use Rattle.ng_ast.specs.declared.refusals.Rule.TheVariants as rule;
 ghost use Rattle.ng_exprs.specs.Reading.{Refused};
 ghost use Rattle.ng_lex.specs.declared.kinds.TokenKind.{TokenKind};
 ghost use Rattle.ng_lex.specs.declared.markup.Part.{Part};
@@ -17,8 +16,7 @@ use crate::quotes::{Quotes, seek};
 use crate::words::{after, starts_lower};
 use ng_ast::{Place, ReadError, Refusal, Rule};
 use ng_tokens::{begins, steps};
-use ng_values::NgText;
-use std::alloc::{AllocError, Global};
+use std::alloc::Global;
 
 // Whether literal text stands at the front.
 fn starts_plain(z: &[u8]) -> bool
@@ -114,17 +112,6 @@ pub fn span(text: &str) -> Option<(TokenKind, usize)>
     find(text)
 }
 
-fn refusal(alloc: Global, place: Place) -> Result<Refusal, AllocError>
-    ensures { IfOk result (λ f. (f.rule ≡ rule.Syntax) × (f.name ≡ [])) }
-{
-    let name = NgText::new(alloc, "")?;
-    Ok(Refusal {
-        rule: Rule::Syntax,
-        place,
-        name,
-    })
-}
-
 // No token stands after so many bytes of the text.
 fn refused(alloc: Global, text: &str, from: usize) -> ReadError
     requires size { length text.now ≤ 1048576 }
@@ -136,7 +123,7 @@ fn refused(alloc: Global, text: &str, from: usize) -> ReadError
         column: 1,
         byte: 0,
     };
-    match refusal(alloc, steps(start, &text.as_bytes()[..from])) {
+    match Refusal::nameless(alloc, Rule::Syntax, steps(start, &text.as_bytes()[..from])) {
         Ok(refusal) => ReadError::Syntax(refusal),
         Err(_) => ReadError::Memory,
     }

@@ -10,7 +10,7 @@ use Rattle.ng_lex.specs.declared.markup.Part.{Part}
 use Rattle.ng_lex.specs.declared.kinds.TokenKind.{TokenKind}
 use Rattle.ng_lex.specs.declared.kinds.TokenKind.TheVariants as kind
 use Rattle.ng_lex.specs.Letters.{letters}
-use Rattle.ng_lex.specs.Lexis.{part, IsWritten, Lexes}
+use Rattle.ng_lex.specs.Lexis.{part, Lexes}
 use Rattle.ng_lex.specs.Spans.{IsSpan, kind_of}
 use Rattle.ng_lex.specs.Span.{span}
 use Rattle.ng_lex.proofs.Complete.{span_is}
@@ -20,7 +20,8 @@ use Rattle.ng_lex.proofs.Decoding.{one_decoding}
 use Rattle.ng_markup.specs.Parts.{IsRead}
 use Rattle.ng_nodes.specs.Texts.{Parts}
 use Rattle.ng_templates.specs.Fronts.{One}
-use Rattle.ng_markup.proofs.WrittenLaws.{one_written}
+use Rattle.ng_attributes.proofs.Texts.{same_front}
+use Rattle.ng_markup.proofs.WrittenLaws.{one_written, no_literal}
 
 -- the part at the front of the text, after which these parts come
 pub record First (p : Place) (t : Text) (u : Part) (ps : Parts) (r : Text) : Type 0 where
@@ -48,16 +49,6 @@ one_long {a} {z} {u} h = span_long (kind_of u.markup) a z h.spans
 
 -- ---- one part at most
 
-same_front : {A : Type 0} (x y z r : List A) → x ++ z ≡ y ++ r → length x ≡ length y → (x ≡ y) × (z ≡ r)
-same_front [] [] z r e l = (refl, e)
-same_front [] (b ∷ y) z r e l = absurd (omega arith)
-same_front (b ∷ x) [] z r e l = absurd (omega arith)
-same_front (b ∷ x) (c ∷ y) z r e l =
-    let h : b ≡ c = cc in
-    let t : x ++ z ≡ y ++ r = cc in
-    let g = same_front x y z r t (omega arith) in
-    (ap (λ w. b ∷ w) g.0 ∙ ap (λ d. d ∷ y) h, g.1)
-
 pub same_length : {A : Type 0} (x y z r : List A) → x ++ z ≡ y ++ r → z ≡ r → x ≡ y
 same_length x y z r e f = (same_front x y z r e (omega (arith, ap length e, length-append x z, length-append y r, ap length f))).0
 
@@ -69,26 +60,6 @@ one_span k l a z b y h i e =
     let s = span_same k l (length a) (length b) (sym (span_is k a z h) ∙ ap span e ∙ span_is l b y i) in
     let g = same_front a b z y e s.1 in
     (s.0, g.0, g.1)
-
--- a part that is no literal text has another kind
-no_literal : (p : Place) (a : Text) (c : Markup) → IsWritten p a c → kind_of c ≡ kind.Literal → ⊥
-no_literal p a (m.Literal cs) h e = absurd h
-no_literal p a (m.Interpolation x) h e = absurd cc
-no_literal p a m.Comment h e = absurd cc
-no_literal p a (m.Single tag attrs) h e = absurd cc
-no_literal p a (m.Start tag attrs) h e = absurd cc
-no_literal p a (m.End tag) h e = absurd cc
-no_literal p a (m.If x n) h e = absurd cc
-no_literal p a (m.ElseIf x n) h e = absurd cc
-no_literal p a m.Else h e = absurd cc
-no_literal p a (m.For head) h e = absurd cc
-no_literal p a m.Empty h e = absurd cc
-no_literal p a (m.Switch x) h e = absurd cc
-no_literal p a (m.Case x) h e = absurd cc
-no_literal p a m.Default h e = absurd cc
-no_literal p a (m.Let n x) h e = absurd cc
-no_literal p a m.Close h e = absurd cc
-no_literal p a (m.Heavy shape) h e = absurd h
 
 one_read : (p : Place) (a : Text) (c d : Markup) → kind_of c ≡ kind_of d → IsRead p a c → IsRead p a d → c ≡ d
 one_read p a c d k (inl (ls, h, e)) (inl (ms, i, f)) = e ∙ ap (λ v. m.Literal (letters v)) (one_decoding p a ls ms h i) ∙ sym f

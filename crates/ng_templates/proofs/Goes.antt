@@ -3,7 +3,7 @@ use Rattle.std.proofs.Common.{◌≡◌, ◌<◌, [], ◌∷◌, ◌++◌, lengt
 use Rattle.std.proofs.lemmas.List.{append-nil}
 use Rattle.std.specs.Prelude.{◌⊎◌}
 use Rattle.ng_ast.specs.declared.Place.{Place}
-use Rattle.ng_tokens.specs.Lexis.{Text, step, steps}
+use Rattle.ng_tokens.specs.Lexis.{Text, steps}
 use Rattle.ng_lex.specs.declared.markup.Markup.TheVariants as m
 use Rattle.ng_lex.specs.declared.markup.Part.{Part}
 use Rattle.ng_lex.specs.Lexis.{part, Lexes}
@@ -13,11 +13,8 @@ use Rattle.ng_lex.specs.Spans.{IsSpan, kind_of}
 use Rattle.ng_markup.specs.Parts.{IsRead, IsCalm}
 use Rattle.ng_nodes.specs.Texts.{Parts}
 use Rattle.ng_templates.specs.Fronts.{One, Within, Beyond, Goes}
+use Rattle.ng_attributes.proofs.Texts.{steps_append}
 use Rattle.ng_templates.proofs.Firsts.{First, first, one_first, one_long, part_is, lexes_none}
-
-pub steps_append : (p : Place) (x y : Text) → steps p (x ++ y) ≡ steps (steps p x) y
-steps_append p [] y = refl
-steps_append p (b ∷ x) y = steps_append (step p b) x y
 
 pub goes_none : (p : Place) (t : Text) → Goes p t [] [] t
 goes_none p t = record { is = refl; ahead = λ ps r h. h; back = λ ps r h. inr (record { more = ps; parts = refl; reads = h }) }

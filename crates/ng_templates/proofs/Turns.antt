@@ -29,7 +29,8 @@ use Rattle.ng_nodes.specs.Reading.{HasRead, OverParts, CannotStand, Halts}
 use Rattle.ng_templates.specs.Reading.{NoTemplate, OverTemplate, AnswersNodes}
 use Rattle.ng_templates.specs.Fronts.{One, IsNowhere, Overflows, Stands, halted, SoFar}
 use Rattle.ng_templates.proofs.Firsts.{one_span, part_is}
-use Rattle.ng_templates.proofs.Goes.{steps_append, goes_none, goes_next}
+use Rattle.ng_attributes.proofs.Texts.{steps_append}
+use Rattle.ng_templates.proofs.Goes.{goes_none, goes_next}
 use Rattle.ng_templates.proofs.Light.{heavy_unread}
 use Rattle.ng_templates.proofs.Whole.{all_lexed, all_calm, all_over, all_unread, unread, misplaced, heavy_misplaced, part_over, heavy_over}
 

@@ -1,7 +1,7 @@
 -- What is known of a whole text, from the parts at its front.
 use Rattle.std.proofs.Common.{◌≡◌, ◌<◌, List, [], ◌∷◌, ◌++◌, length, codes, refl, sym, ◌∙◌, ap, subst, append_assoc, arith, length-append, inl, inr}
 use Rattle.std.proofs.lemmas.List.{append-nil}
-use Rattle.std.specs.Prelude.{Bool, true, false, ◌⊎◌}
+use Rattle.std.specs.Prelude.{false, ◌⊎◌}
 use Rattle.ng_ast.specs.declared.Place.{Place}
 use Rattle.ng_ast.specs.declared.TNode.{TNode}
 use Rattle.ng_tokens.specs.Lexis.{Text, steps}
@@ -21,7 +21,9 @@ use Rattle.ng_nodes.specs.Reading.{OverParts, CannotStand}
 use Rattle.ng_markup.specs.Parts.{IsRead}
 use Rattle.ng_templates.specs.Reading.{NoTemplate, OverNext, OverTemplate}
 use Rattle.ng_templates.specs.Fronts.{One, IsNowhere, Within, Beyond, Goes}
+use Rattle.ng_attributes.proofs.Texts.{not_both}
 use Rattle.ng_markup.proofs.PartLaws.{heavy_shape}
+use Rattle.ng_markup.proofs.Plain.{heavy_marked, literal_plain}
 use Rattle.ng_templates.proofs.Firsts.{First, first, one_first, one_long, same_length, lexes_none}
 use Rattle.ng_templates.proofs.Goes.{one_lexes}
 
@@ -41,28 +43,10 @@ heavy_long p z s.Case (w, x, is, blank, over) = bracket_long (codes "@case") w x
 heavy_long p z s.Let (x, t, n, is, (w, v, same, gap, blank, name), over) =
     omega (arith, ap length is, length-append x t, ap length same, length-append (codes "@let") (w ++ (n ++ (v ++ (61 ∷ [])))), length-append w (n ++ (v ++ (61 ∷ []))), length-append n (v ++ (61 ∷ [])), length-append v (61 ∷ []))
 
--- no literal text stands there
-heavy_marked : (p : Place) (z : Text) (shape : Shape) → IsHeavy p z shape → starts_plain z ≡ false
-heavy_marked p z s.Interpolation (t, r, is, first, over) = ap starts_plain is
-heavy_marked p z s.Tag (tag, x, is, h, over) = ap starts_plain is
-heavy_marked p z s.If (w, x, is, blank, over) = ap starts_plain is
-heavy_marked p z s.ElseIf (word, (v, gap, same), (w, x, is, blank, over)) = ap starts_plain is ∙ ap (λ k. starts_plain (k ++ (w ++ (40 ∷ x)))) same
-heavy_marked p z s.For (w, x, is, blank, over) = ap starts_plain is
-heavy_marked p z s.Switch (w, x, is, blank, over) = ap starts_plain is
-heavy_marked p z s.Case (w, x, is, blank, over) = ap starts_plain is
-heavy_marked p z s.Let (x, t, n, is, (w, v, same, gap, blank, name), over) = ap starts_plain is ∙ ap (λ k. starts_plain (k ++ t)) same
-
-literal_plain : (a z : Text) → IsSpan kind.Literal a z → starts_plain (a ++ z) ≡ true
-literal_plain [] z h = absurd h
-literal_plain (b ∷ a) z h = h.0.0
-
-true_false : (b : Bool) → b ≡ true → b ≡ false → ⊥
-true_false b e f = cc
-
 -- what stands where a part passes a limit has its shape
 shaped_by : (p : Place) (a z : Text) (u : Part) (shape : Shape) → One p a z u → IsHeavy p (a ++ z) shape → IsRead p a u.markup → HasShape shape u.markup
 shaped_by p a z u shape h heavy (inl (ls, decodes, e)) =
-    absurd (true_false (starts_plain (a ++ z)) (literal_plain a z (subst (λ c. IsSpan (kind_of c) a z) e h.spans)) (heavy_marked p (a ++ z) shape heavy))
+    absurd (not_both (starts_plain (a ++ z)) (literal_plain a z (subst (λ c. IsSpan (kind_of c) a z) e h.spans)) (heavy_marked p (a ++ z) shape heavy))
 shaped_by p a z u shape h heavy (inr w) = heavy_shape p a z shape u.markup w heavy
 
 written_light : (p : Place) (a : Text) (c : Markup) → IsWritten p a c → is_heavy c ≡ false

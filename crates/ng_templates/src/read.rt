@@ -1,6 +1,6 @@
 //! Reads a whole template.
 
-ghost use Rattle.std.specs.Prelude.{◌≡◌, ℕ, ◌≤◌, List, [], length, IfOk, IfErr};
+ghost use Rattle.std.specs.Prelude.{◌≡◌, ℕ, ◌≤◌, List, length, IfOk, IfErr};
 ghost use Rattle.ng_ast.specs.declared.Place.{Place};
 ghost use Rattle.ng_ast.specs.declared.Template.{Template};
 ghost use Rattle.ng_exprs.specs.Reading.{Refused, IsOrMemory};
@@ -9,25 +9,17 @@ ghost use Rattle.ng_templates.specs.Reading.{IsBase, ReadsTemplate, NoTemplate, 
 use crate::nodes::read_nodes;
 use ng_ast::{Place, ReadError, Refusal, Rule, Template};
 use ng_nodes::Halt;
-use ng_values::NgText;
-use std::alloc::{AllocError, Global};
-
-fn refusal(alloc: Global, rule: Rule, place: Place) -> Result<Refusal, AllocError>
-    ensures { IfOk result (λ f. (f.rule ≡ rule) × (f.name ≡ [])) }
-{
-    let name = NgText::new(alloc, "")?;
-    Ok(Refusal { rule, place, name })
-}
+use std::alloc::Global;
 
 fn refused(alloc: Global, halt: Halt) -> ReadError
     ensures { Tells halt result }
 {
     match halt {
-        Halt::Syntax(place) => match refusal(alloc, Rule::Syntax, place) {
+        Halt::Syntax(place) => match Refusal::nameless(alloc, Rule::Syntax, place) {
             Ok(refusal) => ReadError::Syntax(refusal),
             Err(_) => ReadError::Memory,
         },
-        Halt::Limit(place) => match refusal(alloc, Rule::Limit, place) {
+        Halt::Limit(place) => match Refusal::nameless(alloc, Rule::Limit, place) {
             Ok(refusal) => ReadError::Limit(refusal),
             Err(_) => ReadError::Memory,
         },
