@@ -1,5 +1,4 @@
 -- How one answer leads to another.
-use Rattle.std.proofs.Common.{◌≡◌}
 use Rattle.ng_ast.specs.declared.refusals.ReadError.{ReadError}
 use Rattle.ng_ast.specs.declared.refusals.ReadError.TheVariants as r
 use Rattle.ng_exprs.specs.Reading.{Refused}

@@ -1,8 +1,8 @@
 -- Letters are no more than the bytes that they are written with, and their places are near.
-use Rattle.std.proofs.Common.{◌≡◌, ℕ, suc, ◌+◌, ◌<◌, ◌≤◌, List, [], ◌∷◌, ◌++◌, length, refl, sym, ◌∙◌, ap, subst, append_assoc, arith, length-append}
+use Rattle.std.proofs.Common.{◌≡◌, ℕ, ◌+◌, ◌≤◌, List, [], ◌∷◌, ◌++◌, length, refl, sym, ap, subst, append_assoc, arith, length-append}
 use Rattle.std.proofs.lemmas.List.{length-map}
 use Rattle.std.proofs.lemmas.Str.{length-encode, len_utf8_bounds}
-use Rattle.std.specs.Prelude.{Bool, true, false, cond, ◌==◌, map, encode_utf8, Option, Some, None}
+use Rattle.std.specs.Prelude.{Bool, true, false, cond, ◌==◌, map, encode_utf8, Some, None}
 use Rattle.ng_ast.specs.declared.Place.{Place}
 use Rattle.ng_tokens.specs.Lexis.{Text, same_text, step, steps}
 use Rattle.ng_exprs.specs.Reading.{IsNear}

@@ -1,5 +1,5 @@
 -- Texts that aren't too long, and what is cut off them.
-use Rattle.std.proofs.Common.{◌≡◌, ℕ, ◌+◌, ◌<◌, ◌≤◌, ◌^◌, ◌++◌, length, ap, arith, length-append}
+use Rattle.std.proofs.Common.{◌≡◌, ◌+◌, ◌<◌, ◌≤◌, ◌^◌, ◌++◌, length, ap, arith, length-append}
 use Rattle.ng_ast.specs.declared.Place.{Place}
 use Rattle.ng_tokens.specs.Lexis.{Text}
 use Rattle.ng_attributes.specs.Places.{Fits}

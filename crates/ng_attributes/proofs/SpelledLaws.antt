@@ -1,5 +1,5 @@
 -- Letters with their text, cut in two.
-use Rattle.std.proofs.Common.{◌≡◌, ℕ, ◌≤◌, List, [], ◌∷◌, ◌++◌, length, take, drop, refl, sym, ◌∙◌, ap, subst, arith, length-append, length-drop}
+use Rattle.std.proofs.Common.{◌≡◌, ℕ, ◌≤◌, ◌++◌, length, take, drop, sym, ◌∙◌, ap, subst, arith, length-append}
 use Rattle.std.proofs.lemmas.List.{take-append-drop, length-take-le, take-map, drop-map}
 use Rattle.std.specs.Prelude.{string_bytes}
 use Rattle.std.specs.Str.{IsUtf8, IsCharBoundary}

@@ -1,5 +1,5 @@
 -- Texts that aren't too long, and places in them.
-use Rattle.std.specs.Prelude.{ℕ, ◌+◌, ◌≤◌, length}
+use Rattle.std.specs.Prelude.{◌+◌, ◌≤◌, length}
 use Rattle.ng_ast.specs.declared.Place.{Place}
 use Rattle.ng_tokens.specs.Lexis.{Text}
 

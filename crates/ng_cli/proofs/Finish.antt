@@ -20,7 +20,7 @@ use Rattle.ng_cli.specs.declared.status.Status.TheVariants as status
 use Rattle.ng_quiet.specs.Quiet.{IsQuiet}
 use Rattle.ng_cli.specs.Words.{Task, Runs, Checks, app_of, task_of, usage}
 use Rattle.ng_cli.specs.Refusals.{IsSoundApp, RefusesApp, RefusesTask, refused_for_all, AreClicks, RefusesEvents}
-use Rattle.ng_cli.specs.Allowed.{Told, Allowed, IsBuilt, click, asks_nothing, refuses_app, says_quiet, says_not_quiet, refuses_events, runs, AreTold, EventsTold}
+use Rattle.ng_cli.specs.Allowed.{Told, Allowed, IsBuilt, click, asks_nothing, refuses_app, says_quiet, says_not_quiet, refuses_events, runs}
 use Rattle.ng_cli.specs.Causes.{Wrote, WrotePart, WroteAllowed, WroteFront, FetchFailed, EventsFailed, NoneFailed}
 use Rattle.ng_cli.specs.Ends.{AllTold, PutEnds, StopEnds, WroteSome, Ends}
 use Rattle.ng_cli.specs.Steps.{ended, line_of, AppStop, TaskStop, EventsStop, says, whole_run, code_of}

@@ -1,5 +1,5 @@
 -- Why an application isn't taken, as the line that refuses it.
-use Rattle.std.proofs.Common.{◌≡◌, ◌≤◌, length, Ok, Err, Some, sym, subst}
+use Rattle.std.proofs.Common.{◌≤◌, length, Err, sym, subst}
 use Rattle.std.specs.Str.{IsUtf8}
 use Rattle.ng_ast.specs.declared.App.{App}
 use Rattle.ng_ast.specs.declared.refusals.ReadError.{ReadError}

@@ -13,7 +13,7 @@ use Rattle.ng_rules.specs.Breaks.{IsSound}
 use Rattle.ng_unbuilt.specs.Forms.{forms}
 use Rattle.ng_unbuilt.specs.Least.{least}
 use Rattle.ng_clicks.specs.Clicks.{json_of, clicks_of}
-use Rattle.ng_cli.specs.Words.{Task, Runs, Checks}
+use Rattle.ng_cli.specs.Words.{Task, Checks}
 use Rattle.ng_cli.specs.Refusals.{IsSoundApp, RefusesApp, app_too_long, app_utf8, app_syntax, app_limited, app_broken, RefusesTask, refused_for_all, not_built, AreClicks, RefusesEvents, events_too_long, events_syntax, events_not_built}
 use Rattle.ng_cli.specs.Allowed.{IsBuilt}
 

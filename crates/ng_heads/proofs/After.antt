@@ -1,9 +1,8 @@
 -- What comes after the sign that ends an expression doesn't count.
-use Rattle.std.proofs.Common.{◌≡◌, ℕ, zero, suc, ◌+◌, ◌-◌, ◌<◌, ◌≤◌, List, [], ◌∷◌, ◌++◌, length, refl, sym, ◌∙◌, ap, subst, append_assoc, arith, length-append, inl, inr}
+use Rattle.std.proofs.Common.{◌≡◌, ℕ, zero, suc, ◌+◌, ◌-◌, ◌≤◌, List, [], ◌∷◌, ◌++◌, length, refl, sym, ◌∙◌, ap, subst, append_assoc, arith, inl, inr}
 use Rattle.std.specs.Prelude.{Bool, true, false, cond, ◌==◌, Option, Some, None}
 use Rattle.std.specs.List.{prefix_len}
 use Rattle.std.specs.Option.{option_map}
-use Rattle.ng_ast.specs.declared.Place.{Place}
 use Rattle.ng_tokens.specs.declared.kinds.Sign.{Sign}
 use Rattle.ng_tokens.specs.declared.kinds.Shape.{Shape}
 use Rattle.ng_tokens.specs.declared.kinds.Shape.TheVariants as form
@@ -11,10 +10,8 @@ use Rattle.ng_tokens.specs.Lexis.{Text, is_blank, is_digit, is_letter, is_word, 
 use Rattle.ng_tokens.specs.Scan.{find, signs, quoted, shape}
 use Rattle.ng_tokens.proofs.Literals.{Cut, cut_literal}
 use Rattle.ng_exprs.specs.Limits.{after}
-use Rattle.ng_exprs.specs.Reading.{OverText}
-use Rattle.ng_exprs.specs.Ends.{IsEnd, is_zero, stops, kind_by, end_by, end_from}
+use Rattle.ng_exprs.specs.Ends.{IsEnd, stops, kind_by, end_by, end_from}
 use Rattle.ng_lex.specs.Heads.{EndsAfter}
-use Rattle.ng_heads.proofs.Texts.{no_true, same_front}
 
 -- ---- a token before the sign
 

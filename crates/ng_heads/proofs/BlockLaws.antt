@@ -1,19 +1,18 @@
 -- Heads of blocks: what a head's word and its brackets make of it.
-use Rattle.std.proofs.Common.{◌≡◌, ℕ, take, [], ◌∷◌, ◌++◌, codes, refl, sym, ◌∙◌, ap, subst, append_assoc, arith, inl, inr}
+use Rattle.std.proofs.Common.{◌≡◌, ℕ, take, [], ◌∷◌, ◌++◌, codes, refl, sym, ◌∙◌, ap, subst, append_assoc, arith}
 use Rattle.std.proofs.lemmas.List.{append-nil}
-use Rattle.std.specs.Prelude.{Bool, true, false, ◌⊎◌, Option, Some, None, Result, Ok, Err, MatchBool, MatchOption}
+use Rattle.std.specs.Prelude.{Bool, true, false, Option, Some, None, Result, Ok, Err, MatchBool, MatchOption}
 use Rattle.ng_ast.specs.declared.Place.{Place}
 use Rattle.ng_ast.specs.declared.Expr.{Expr}
 use Rattle.ng_ast.specs.declared.ForHead.{ForHead}
 use Rattle.ng_tokens.specs.Lexis.{Text, is_blank, all, same_text, begins, steps}
 use Rattle.ng_exprs.specs.Reading.{ReadsExpr}
-use Rattle.ng_lex.specs.declared.kinds.TokenKind.{TokenKind}
 use Rattle.ng_lex.specs.declared.kinds.TokenKind.TheVariants as kind
 use Rattle.ng_lex.specs.declared.markup.Markup.{Markup}
 use Rattle.ng_lex.specs.declared.markup.Markup.TheVariants as m
 use Rattle.ng_lex.specs.declared.markup.Shape.{Shape}
 use Rattle.ng_lex.specs.declared.markup.Shape.TheVariants as s
-use Rattle.ng_lex.specs.Words.{IsBlank, IsGap, at_front}
+use Rattle.ng_lex.specs.Words.{IsBlank, at_front}
 use Rattle.ng_lex.specs.Heads.{Bracketed, Braced, IsElseIf, ReadsTest, ReadsFor, OverFront, OverFor}
 use Rattle.ng_lex.specs.Lexis.{IsWritten}
 use Rattle.ng_lex.specs.Heavy.{IsHeavy}
@@ -23,12 +22,12 @@ use Rattle.ng_heads.specs.declared.halt.Halt.{Halt}
 use Rattle.ng_heads.specs.declared.halt.Halt.TheVariants as h
 use Rattle.ng_heads.specs.declared.halt.Stop.{Stop}
 use Rattle.ng_heads.specs.declared.halt.Stop.TheVariants as stop
-use Rattle.ng_heads.specs.Answers.{IsCalm, Says, Answers, Reads, Turns}
+use Rattle.ng_heads.specs.Answers.{IsCalm, Answers, Reads, Turns}
 use Rattle.ng_heads.specs.Closes.{ClosedAt, NotClosed}
 use Rattle.ng_heads.specs.Brackets.{InBrackets, NoBrackets}
 use Rattle.ng_heads.specs.Blocks.{AnswersAfter, AnswersElseIf, IsBrace, AtIf, NoIf}
 use Rattle.ng_heads.specs.Steps.{Past, Skips}
-use Rattle.ng_heads.proofs.Texts.{both_true, no_true, not_both, same_front, same_runs, same_is, begins_self, begins_is, steps_append}
+use Rattle.ng_heads.proofs.Texts.{both_true, not_both, same_front, same_is, steps_append}
 use Rattle.ng_heads.proofs.Names.{gap_blank}
 use Rattle.ng_heads.proofs.PartFronts.{else_tail, way, way_of, way_of_shape, written_way, heavy_way, else_apart, same_else, one_bracket, bracket_heavy, else_heavy, for_heavy}
 use Rattle.ng_heads.proofs.TestLaws.{word_left, blank_left}

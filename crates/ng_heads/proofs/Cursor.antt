@@ -1,17 +1,14 @@
 -- Reading a text from left to right.
-use Rattle.std.proofs.Common.{◌≡◌, ℕ, ◌+◌, ◌<◌, ◌≤◌, [], ◌∷◌, ◌++◌, length, take, drop, refl, sym, ◌∙◌, ap, subst, arith, length-append, length-take}
+use Rattle.std.proofs.Common.{◌≡◌, ℕ, ◌+◌, ◌<◌, [], ◌∷◌, ◌++◌, length, take, refl, sym, ◌∙◌, ap, subst, arith}
 use Rattle.std.proofs.Math.Seq.{take-append_seam}
 use Rattle.std.proofs.lemmas.Str.{IsUtf8-nil, IsCharBoundary-at_seam}
-use Rattle.std.specs.Prelude.{Bool, true, false, cond, ◌==◌, ◌||◌, if◌then◌else◌}
+use Rattle.std.specs.Prelude.{Bool, true, false, cond, ◌==◌, ◌||◌}
 use Rattle.std.specs.List.{prefix_len}
 use Rattle.std.specs.Str.{IsUtf8, IsCharBoundary}
-use Rattle.ng_ast.specs.declared.Place.{Place}
 use Rattle.ng_tokens.specs.Lexis.{Text, is_blank, is_letter, is_word, all, begins, steps}
 use Rattle.ng_lex.specs.Words.{IsName, at_front}
 use Rattle.ng_lex.specs.Attributes.{differs}
-use Rattle.ng_lex.specs.Span.{is_ascii}
 use Rattle.ng_lex.proofs.Texts.{run_split}
-use Rattle.ng_lex.proofs.Boundaries.{word_boundary}
 use Rattle.ng_heads.specs.declared.at.At.{At}
 use Rattle.ng_heads.specs.Runs.{Run, in_word, in_piece}
 use Rattle.ng_heads.specs.Steps.{Past, Skips, Splits}

@@ -1,14 +1,14 @@
 -- The parts of the head of a `@for`, from left to right.
 use Rattle.std.proofs.Common.{◌≡◌, ℕ, ◌<◌, List, [], ◌∷◌, ◌++◌, length, codes, refl, sym, ◌∙◌, ap, subst, append_assoc, arith, length-append, inl, inr}
-use Rattle.std.specs.Prelude.{Bool, true, false, cond, ◌||◌, ◌==◌, ◌⊎◌, Option, Some, None, Result, Ok, Err, MatchOption, is_some}
+use Rattle.std.specs.Prelude.{Bool, true, false, cond, ◌||◌, ◌==◌, Option, Some, None, Result, Ok, Err, MatchOption, is_some}
 use Rattle.ng_ast.specs.declared.Place.{Place}
 use Rattle.ng_ast.specs.declared.Expr.{Expr}
 use Rattle.ng_ast.specs.declared.ForHead.{ForHead}
-use Rattle.ng_tokens.specs.Lexis.{Text, is_blank, is_word, same_text, begins, all, steps}
+use Rattle.ng_tokens.specs.Lexis.{Text, is_blank, is_word, same_text, begins, steps}
 use Rattle.ng_exprs.specs.Reading.{ReadsExpr, OverText}
 use Rattle.ng_exprs.specs.Ends.{IsEnd}
 use Rattle.ng_exprs.proofs.Closing.{ends}
-use Rattle.ng_lex.specs.Words.{IsBlank, EndsWord, at_front}
+use Rattle.ng_lex.specs.Words.{EndsWord, at_front}
 use Rattle.ng_lex.specs.Attributes.{differs}
 use Rattle.ng_lex.specs.Heads.{IsLetPart, ReadsPairs, ReadsParts, IsRow, ReadsFor, EndsAfter, OverFront, OverParts, OverFor}
 use Rattle.ng_heads.specs.declared.at.At.{At}
@@ -16,17 +16,15 @@ use Rattle.ng_heads.specs.declared.extras.Extras.{Extras}
 use Rattle.ng_heads.specs.declared.halt.Stop.{Stop}
 use Rattle.ng_heads.specs.declared.halt.Stop.TheVariants as stop
 use Rattle.ng_heads.specs.Runs.{in_piece}
-use Rattle.ng_heads.specs.Answers.{Reads}
 use Rattle.ng_heads.specs.Parts.{merged, GoesParts}
 use Rattle.ng_heads.specs.Steps.{Past, Skips, Splits}
 use Rattle.ng_heads.specs.Fronts.{ReadFront, PastLimit, AnswersFront}
 use Rattle.ng_heads.specs.Fors
-use Rattle.ng_heads.proofs.Texts.{no_true, not_both, same_byte, same_front, same_runs, same_is, begins_is, all_weaker, steps_append}
+use Rattle.ng_heads.proofs.Texts.{no_true, not_both, same_byte, same_runs, same_is, begins_is, all_weaker, steps_append}
 use Rattle.ng_heads.proofs.Names.{same_tail}
-use Rattle.ng_heads.proofs.After.{ends_any}
-use Rattle.ng_heads.proofs.HeadLaws.{StartsEnd, expr_ends, expr_then, in_pairs, let_pairs, round_ends, semicolon_ends}
+use Rattle.ng_heads.proofs.HeadLaws.{StartsEnd, expr_ends, expr_then, in_pairs, let_pairs, round_ends}
 use Rattle.ng_heads.proofs.ForLaws.{FirstPart, first_part, parts_ends, parts_stop, no_part, same_tracks, track_no_let, one_row}
-use Rattle.ng_heads.proofs.ForSteps.{parts_none, parts_let, parts_track, track_over, parts_all, parts_calm, parts_unread}
+use Rattle.ng_heads.proofs.ForSteps.{parts_none, parts_let, parts_track, parts_all, parts_calm, parts_unread}
 use Rattle.ng_heads.proofs.PartFronts.{front_heavy, list_heavy}
 use Rattle.ng_heads.proofs.FrontLaws.{starts_end, past_any}
 use Rattle.ng_heads.proofs.TestLaws.{word_left, blank_left}

@@ -1,12 +1,12 @@
 -- Expressions at the front of a text, and what may come after them.
-use Rattle.std.proofs.Common.{◌≡◌, ℕ, ◌<◌, ◌≤◌, [], ◌∷◌, ◌++◌, length, take, drop, refl, sym, ◌∙◌, ap, subst, append_assoc, arith, length-append, inl, inr}
+use Rattle.std.proofs.Common.{◌≡◌, ℕ, ◌<◌, [], ◌∷◌, ◌++◌, length, take, refl, sym, ◌∙◌, ap, subst, append_assoc, arith, length-append, inl, inr}
 use Rattle.std.proofs.Math.Seq.{take-append_seam}
 use Rattle.std.proofs.lemmas.Str.{IsCharBoundary-before_ascii}
-use Rattle.std.specs.Prelude.{Bool, true, false, cond, ◌||◌, ◌==◌, ◌⊎◌, Option, Some, None, Result, Ok, Err, slice_get, IfSome, MatchOption}
+use Rattle.std.specs.Prelude.{Bool, true, false, ◌||◌, ◌==◌, Option, Some, None, Ok, Err, slice_get}
 use Rattle.std.specs.Str.{IsUtf8, IsCharBoundary}
 use Rattle.ng_ast.specs.declared.Place.{Place}
 use Rattle.ng_ast.specs.declared.Expr.{Expr}
-use Rattle.ng_tokens.specs.Lexis.{Text, same_text, begins, steps}
+use Rattle.ng_tokens.specs.Lexis.{Text, steps}
 use Rattle.ng_exprs.specs.Reading.{ReadsExpr, OverText}
 use Rattle.ng_exprs.specs.Ends.{IsEnd, end_from}
 use Rattle.ng_exprs.proofs.Closing.{ends}
@@ -17,10 +17,9 @@ use Rattle.ng_heads.specs.declared.halt.Stop.{Stop}
 use Rattle.ng_heads.specs.declared.halt.Stop.TheVariants as stop
 use Rattle.ng_heads.specs.Fronts.{is_end, AnswersExpr, Ended, NoFront, ReadFront, PastLimit, AnswersFront}
 use Rattle.ng_heads.specs.Steps.{Past}
-use Rattle.ng_heads.proofs.Texts.{same_byte, same_is, same_front, no_true, not_both, at_seam, begins_self}
-use Rattle.ng_heads.proofs.Names.{same_tail}
+use Rattle.ng_heads.proofs.Texts.{same_byte, same_front, no_true, not_both, at_seam}
 use Rattle.ng_heads.proofs.After.{ends_any}
-use Rattle.ng_heads.proofs.HeadLaws.{StartsEnd, expr_ends, expr_then}
+use Rattle.ng_heads.proofs.HeadLaws.{StartsEnd, expr_then}
 use Rattle.ng_heads.proofs.PartFronts.{front_heavy}
 
 -- ---- where the expression ends

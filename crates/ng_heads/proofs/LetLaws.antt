@@ -1,9 +1,9 @@
 -- `@let` and interpolations.
-use Rattle.std.proofs.Common.{◌≡◌, ℕ, ◌+◌, ◌≤◌, ◌-◌, take, drop, length, [], ◌∷◌, ◌++◌, codes, refl, sym, ◌∙◌, ap, subst, append_assoc, arith, length-append, inl, inr}
+use Rattle.std.proofs.Common.{◌≡◌, ◌+◌, ◌≤◌, ◌-◌, take, length, [], ◌∷◌, ◌++◌, codes, refl, sym, ◌∙◌, ap, subst, append_assoc, arith, length-append, inr}
 use Rattle.std.proofs.Math.Seq.{take-append_seam}
 use Rattle.std.proofs.lemmas.Str.{IsCharBoundary-at_seam}
 use Rattle.std.specs.Str.{IsUtf8, IsCharBoundary}
-use Rattle.std.specs.Prelude.{true, false, Option, Some, None, Result, Ok, Err}
+use Rattle.std.specs.Prelude.{true, false, Result, Ok, Err}
 use Rattle.ng_ast.specs.declared.Place.{Place}
 use Rattle.ng_ast.specs.declared.Expr.{Expr}
 use Rattle.ng_tokens.specs.Lexis.{Text, is_blank, is_letter, is_word, same_text, begins, all, steps}
@@ -14,7 +14,7 @@ use Rattle.ng_lex.specs.declared.markup.Markup.TheVariants as m
 use Rattle.ng_lex.specs.declared.markup.Shape.{Shape}
 use Rattle.ng_lex.specs.declared.markup.Shape.TheVariants as s
 use Rattle.ng_lex.specs.declared.quotes.Quoting.TheVariants.{Outside}
-use Rattle.ng_lex.specs.Words.{IsBlank, IsGap, IsName, at_front, literal, First, opening, closing}
+use Rattle.ng_lex.specs.Words.{IsName, at_front, literal, First, opening, closing}
 use Rattle.ng_lex.specs.Heads.{IsLetFront, OverFront}
 use Rattle.ng_lex.specs.Lexis.{IsWritten}
 use Rattle.ng_lex.specs.Heavy.{IsHeavy}
@@ -25,14 +25,13 @@ use Rattle.ng_heads.specs.declared.halt.Halt.TheVariants as h
 use Rattle.ng_heads.specs.declared.halt.Stop.{Stop}
 use Rattle.ng_heads.specs.declared.halt.Stop.TheVariants as stop
 use Rattle.ng_heads.specs.Answers.{IsCalm, Answers, Turns}
-use Rattle.ng_heads.specs.Fronts.{ReadFront, PastLimit, AnswersFront, AnswersExpr}
+use Rattle.ng_heads.specs.Fronts.{ReadFront, AnswersFront, AnswersExpr}
 use Rattle.ng_heads.specs.Lets.{AtLetFront, NoLetFront}
 use Rattle.ng_heads.specs.Steps.{Past, Skips, Splits}
-use Rattle.ng_heads.proofs.Texts.{utf8_before, utf8_from, utf8_tail, both_true, not_both, same_front, same_is, steps_append}
+use Rattle.ng_heads.proofs.Texts.{utf8_before, utf8_from, utf8_tail, not_both, same_front, same_is, steps_append}
 use Rattle.ng_heads.proofs.Names.{gap_blank, name_letter, name_no_blank, first_once}
-use Rattle.ng_heads.proofs.PartFronts.{way, way_of, way_of_shape, written_way, heavy_way, one_let_front, let_heavy, interpolation_heavy, opening_tail, equals_stops}
+use Rattle.ng_heads.proofs.PartFronts.{way, way_of_shape, heavy_way, one_let_front, let_heavy, interpolation_heavy, opening_tail, equals_stops}
 use Rattle.ng_heads.proofs.Cursor.{no_word}
-use Rattle.ng_heads.proofs.Closing.{last_same}
 use Rattle.ng_heads.proofs.FrontLaws.{past_any, read_calm, read_same}
 use Rattle.ng_heads.proofs.TestLaws.{word_left, blank_left, name_left}
 use Rattle.ng_heads.proofs.RowLaws.{gap_of, gap_front}

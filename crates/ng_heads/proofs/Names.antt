@@ -1,6 +1,6 @@
 -- Names, white space and words.
-use Rattle.std.proofs.Common.{◌≡◌, ℕ, ◌≤◌, [], ◌∷◌, ◌++◌, length, refl, sym, ◌∙◌, ap, subst, append_assoc, arith, length-append}
-use Rattle.std.specs.Prelude.{true, false, if◌then◌else◌, Option, Some}
+use Rattle.std.proofs.Common.{◌≡◌, ℕ, ◌≤◌, [], ◌∷◌, ◌++◌, refl, sym, ◌∙◌, ap, subst, append_assoc, arith, length-append}
+use Rattle.std.specs.Prelude.{true, false, if◌then◌else◌, Some}
 use Rattle.ng_tokens.specs.Lexis.{Text, is_blank, is_letter, is_word, all, begins}
 use Rattle.ng_lex.specs.declared.quotes.Quoting.{Quoting}
 use Rattle.ng_lex.specs.declared.quotes.Quoting.TheVariants.{Outside}

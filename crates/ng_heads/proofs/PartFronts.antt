@@ -1,7 +1,6 @@
 -- How parts begin, and what the beginning says of them.
-use Rattle.std.proofs.Common.{◌≡◌, ℕ, List, [], ◌∷◌, ◌++◌, codes, refl, sym, ◌∙◌, ap, subst, append_assoc, arith, inl, inr}
-use Rattle.std.proofs.lemmas.List.{append-nil}
-use Rattle.std.specs.Prelude.{Bool, true, false, if◌then◌else◌, ◌==◌, ◌⊎◌, Option, Some, None}
+use Rattle.std.proofs.Common.{◌≡◌, ℕ, [], ◌∷◌, ◌++◌, codes, refl, sym, ◌∙◌, ap, subst, append_assoc, arith, inl, inr}
+use Rattle.std.specs.Prelude.{true, false, if◌then◌else◌, ◌⊎◌}
 use Rattle.ng_ast.specs.declared.Place.{Place}
 use Rattle.ng_ast.specs.declared.Expr.{Expr}
 use Rattle.ng_tokens.specs.Lexis.{Text, is_blank, is_word, all, begins, steps}
@@ -12,12 +11,12 @@ use Rattle.ng_lex.specs.declared.markup.Shape.{Shape}
 use Rattle.ng_lex.specs.declared.markup.Shape.TheVariants as s
 use Rattle.ng_lex.specs.declared.quotes.Quoting.TheVariants.{Outside}
 use Rattle.ng_lex.specs.Words.{IsBlank, literal, First, at_front, opening, closing}
-use Rattle.ng_lex.specs.Attributes.{is_lower, in_tag, differs, IsTag}
+use Rattle.ng_lex.specs.Attributes.{differs}
 use Rattle.ng_lex.specs.Heads.{Bracketed, Braced, IsElseIf, IsRow, IsLetFront, EndsAfter, OverFront, OverBracket, OverFor, OverParts}
 use Rattle.ng_lex.specs.Lexis.{IsWritten}
 use Rattle.ng_lex.specs.Heavy.{IsHeavy}
 use Rattle.ng_heads.proofs.Texts.{first_byte, both_true, no_true, same_front, same_runs, all_append, all_weaker}
-use Rattle.ng_heads.proofs.Names.{some_one, same_tail, gap_blank, blank_no_word, name_words, name_no_blank, first_once}
+use Rattle.ng_heads.proofs.Names.{same_tail, gap_blank, blank_no_word, name_words, name_no_blank, first_once}
 use Rattle.ng_heads.proofs.HeadLaws.{StartsEnd, all_at, expr_then, one_end, semicolon_ends}
 use Rattle.ng_heads.proofs.ForLaws.{one_row}
 

@@ -1,5 +1,5 @@
 -- The clauses of the readers of heads, `@let` and interpolations.
-use Rattle.std.proofs.Common.{◌≡◌, ℕ, [], ◌∷◌, ◌++◌, codes, refl, sym, ◌∙◌, ap, subst, arith}
+use Rattle.std.proofs.Common.{◌≡◌, [], ◌∷◌, ◌++◌, codes, refl, sym, ◌∙◌, ap, subst, arith}
 use Rattle.std.proofs.lemmas.List.{append-nil}
 use Rattle.std.specs.Prelude.{false, Option, Result, Ok, Err, IfOk, IfErr}
 use Rattle.ng_ast.specs.declared.Place.{Place}
@@ -12,12 +12,10 @@ use Rattle.ng_lex.specs.declared.kinds.TokenKind.{TokenKind}
 use Rattle.ng_lex.specs.declared.kinds.TokenKind.TheVariants as kind
 use Rattle.ng_lex.specs.declared.markup.Markup.{Markup}
 use Rattle.ng_lex.specs.declared.markup.Markup.TheVariants as m
-use Rattle.ng_lex.specs.declared.markup.Shape.{Shape}
 use Rattle.ng_lex.specs.declared.quotes.Quoting.TheVariants.{Outside}
 use Rattle.ng_lex.specs.Words.{literal, opening, closing}
-use Rattle.ng_lex.specs.Heads.{Bracketed, IsElseIf, ReadsTest, ReadsFor}
+use Rattle.ng_lex.specs.Heads.{Bracketed, ReadsTest, ReadsFor}
 use Rattle.ng_lex.specs.Lexis.{IsWritten}
-use Rattle.ng_lex.specs.Heavy.{IsHeavy}
 use Rattle.ng_lex.specs.Spans.{kind_of}
 use Rattle.ng_heads.specs.declared.halt.Halt.{Halt}
 use Rattle.ng_heads.specs.declared.halt.Halt.TheVariants as h

@@ -1,21 +1,20 @@
 -- The row of a `@for`, and names for its variables, from left to right.
-use Rattle.std.proofs.Common.{◌≡◌, ℕ, ◌<◌, List, length, length-append, [], ◌∷◌, ◌++◌, codes, refl, sym, ◌∙◌, ap, subst, append_assoc, arith, inl, inr}
+use Rattle.std.proofs.Common.{◌≡◌, ◌<◌, List, length, length-append, [], ◌∷◌, ◌++◌, codes, refl, sym, ◌∙◌, ap, subst, append_assoc, arith, inl, inr}
 use Rattle.std.proofs.lemmas.List.{append-nil}
-use Rattle.std.specs.Prelude.{Bool, true, false, cond, ◌==◌, ◌⊎◌, Option, Some, None, Result, Ok, Err}
-use Rattle.ng_ast.specs.declared.Place.{Place}
+use Rattle.std.specs.Prelude.{Bool, true, false, ◌==◌, Ok, Err}
 use Rattle.ng_tokens.specs.Lexis.{Text, is_blank, is_letter, is_word, same_text, begins, all, is_one_of, steps}
-use Rattle.ng_lex.specs.Words.{IsBlank, IsGap, IsName, Spaced, IsOneName, EndsWord, at_front}
+use Rattle.ng_lex.specs.Words.{IsBlank, IsGap, IsName, Spaced, IsOneName, at_front}
 use Rattle.ng_lex.specs.Attributes.{differs}
-use Rattle.ng_lex.specs.Heads.{row_variables, IsPair, ReadsPairs, IsLetPart, IsRow}
+use Rattle.ng_lex.specs.Heads.{row_variables, IsPair, ReadsPairs, IsRow}
 use Rattle.ng_heads.specs.declared.at.At.{At}
 use Rattle.ng_heads.specs.declared.halt.Stop.{Stop}
 use Rattle.ng_heads.specs.declared.halt.Stop.TheVariants as stop
-use Rattle.ng_heads.specs.Runs.{in_word, in_piece}
+use Rattle.ng_heads.specs.Runs.{in_word}
 use Rattle.ng_heads.specs.Steps.{Past, Skips, Splits}
-use Rattle.ng_heads.specs.Fors.{AtRow, NoRow, Adds, AddsPair, GoesPairs, AtLet, NoLet, AtStop, LetStep, NoLetPart, AnswersLet}
-use Rattle.ng_heads.proofs.Texts.{both_true, no_true, not_both, same_byte, same_front, same_runs, same_is, begins_self, begins_is, all_weaker, steps_append}
+use Rattle.ng_heads.specs.Fors.{AtRow, NoRow, Adds, AddsPair, GoesPairs}
+use Rattle.ng_heads.proofs.Texts.{both_true, not_both, same_byte, same_runs, same_is, steps_append}
 use Rattle.ng_heads.proofs.Names.{same_tail, gap_blank, name_letter, name_no_blank, blank_ends, blank_no_word}
-use Rattle.ng_heads.proofs.HeadLaws.{FirstPair, first_pair, one_pair, same_pair, name_free, no_comma, pair_free, in_pairs, let_pairs, variable_no_blank, variable_dark}
+use Rattle.ng_heads.proofs.HeadLaws.{FirstPair, first_pair, one_pair, same_pair, name_free, no_comma, pair_free, variable_no_blank, variable_dark}
 use Rattle.ng_heads.proofs.TestLaws.{word_left, blank_left, name_left}
 use Rattle.ng_heads.proofs.Cursor.{no_word}
 

@@ -1,12 +1,12 @@
 -- What brackets hold: tests with names, and expressions alone.
-use Rattle.std.proofs.Common.{◌≡◌, ℕ, [], ◌∷◌, ◌++◌, codes, refl, sym, ◌∙◌, ap, subst, append_assoc, inl, inr}
-use Rattle.std.specs.Prelude.{true, false, Option, Some, None, Result, Ok, Err}
+use Rattle.std.proofs.Common.{◌≡◌, [], ◌∷◌, ◌++◌, codes, refl, sym, ◌∙◌, ap, subst, append_assoc, inl, inr}
+use Rattle.std.specs.Prelude.{true, false, Option, Some, None, Ok, Err}
 use Rattle.ng_ast.specs.declared.Place.{Place}
 use Rattle.ng_ast.specs.declared.Expr.{Expr}
-use Rattle.ng_tokens.specs.Lexis.{Text, is_blank, is_letter, is_word, same_text, begins, steps}
+use Rattle.ng_tokens.specs.Lexis.{Text, is_blank, is_letter, is_word, same_text, begins}
 use Rattle.ng_exprs.specs.Reading.{ReadsExpr}
-use Rattle.ng_lex.specs.Words.{IsBlank, IsName, IsOneName, Spaced, at_front}
-use Rattle.ng_lex.specs.Heads.{IsAs, ReadsTest, OverFront}
+use Rattle.ng_lex.specs.Words.{IsBlank, IsName, at_front}
+use Rattle.ng_lex.specs.Heads.{IsAs, ReadsTest}
 use Rattle.ng_heads.specs.declared.at.At.{At}
 use Rattle.ng_heads.specs.declared.halt.Stop.{Stop}
 use Rattle.ng_heads.specs.declared.halt.Stop.TheVariants as stop
@@ -14,7 +14,7 @@ use Rattle.ng_heads.specs.Fronts.{ReadFront, AnswersFront}
 use Rattle.ng_heads.specs.Steps.{Past, Skips, Splits}
 use Rattle.ng_heads.specs.Tests.{Named, NotNamed, AnswersTest, AnswersAlone}
 use Rattle.ng_heads.proofs.Texts.{not_both, no_true, same_front, same_runs, same_is}
-use Rattle.ng_heads.proofs.Names.{same_tail, name_words, name_letter, name_no_blank, blank_ends}
+use Rattle.ng_heads.proofs.Names.{name_words, name_letter, name_no_blank, blank_ends}
 use Rattle.ng_heads.proofs.Closing.{last_same}
 use Rattle.ng_heads.proofs.Cursor.{no_word}
 use Rattle.ng_heads.proofs.FrontLaws.{past_any, read_calm, read_same}

@@ -1,6 +1,5 @@
 -- The head of a `@for`, from left to right.
 use Rattle.std.specs.Prelude.{◌≡◌, ℕ, true, false, ◌⊎◌, List, [], ◌∷◌, ◌++◌, codes, Option, Some, None, Result, Ok, Err}
-use Rattle.ng_ast.specs.declared.Place.{Place}
 use Rattle.ng_ast.specs.declared.Expr.{Expr}
 use Rattle.ng_ast.specs.declared.ForHead.{ForHead}
 use Rattle.ng_tokens.specs.Lexis.{Text, is_blank, steps}
@@ -16,7 +15,6 @@ use Rattle.ng_heads.specs.declared.halt.Stop.TheVariants as stop
 use Rattle.ng_heads.specs.Answers.{Reads}
 use Rattle.ng_heads.specs.Parts.{merged}
 use Rattle.ng_heads.specs.Steps.{Past}
-use Rattle.ng_heads.specs.Fronts.{PastLimit}
 
 -- ---- the row
 

@@ -1,5 +1,5 @@
 -- What is begun and not ended: the grammar with productions that lack their end, each said by what its end makes of it.
-use Rattle.std.proofs.Common.{◌≡◌, ℕ, zero, suc, ◌+◌, List, [], ◌∷◌, ◌++◌, length, refl, sym, ◌∙◌, ap, subst, append_assoc}
+use Rattle.std.proofs.Common.{◌≡◌, ◌+◌, List, [], ◌∷◌, ◌++◌, refl, sym, ◌∙◌, ap, subst, append_assoc}
 use Rattle.std.proofs.lemmas.List.{append-nil}
 use Rattle.std.specs.Prelude.{Bool, true, false, ◌||◌, Option, Some, None}
 use Rattle.ng_ast.specs.declared.Place.{Place}
@@ -9,7 +9,6 @@ use Rattle.ng_ast.specs.declared.ForHead.{ForHead}
 use Rattle.ng_ast.specs.declared.Branch.{Branch}
 use Rattle.ng_ast.specs.declared.TNode.{TNode}
 use Rattle.ng_ast.specs.declared.TNode.TheVariants as node
-use Rattle.ng_lex.specs.declared.markup.Markup.{Markup}
 use Rattle.ng_lex.specs.declared.markup.Markup.TheVariants as m
 use Rattle.ng_lex.specs.declared.markup.Part.{Part}
 use Rattle.ng_nodes.specs.declared.state.Opener.{Opener}

@@ -1,5 +1,5 @@
 -- What the grammar reads, the machine reads.
-use Rattle.std.proofs.Common.{◌≡◌, ℕ, zero, suc, ◌+◌, List, [], ◌∷◌, ◌++◌, length, refl, sym, ◌∙◌, ap, subst, append_assoc, arith}
+use Rattle.std.proofs.Common.{◌≡◌, ℕ, suc, ◌+◌, List, [], ◌∷◌, ◌++◌, length, refl, sym, ◌∙◌, ap, append_assoc, arith}
 use Rattle.std.proofs.lemmas.List.{append-nil}
 use Rattle.std.specs.Prelude.{Bool, true, false, ◌||◌, Option, Some, None, Result, Ok, Err, if◌then◌else◌}
 use Rattle.std.proofs.lemmas.Slice.Eq.{bytes_eq-Decides}
@@ -20,10 +20,10 @@ use Rattle.ng_nodes.specs.declared.state.Waiting.TheVariants as wt
 use Rattle.ng_nodes.specs.declared.state.Run.{Run}
 use Rattle.ng_nodes.specs.declared.state.Frame.{Frame}
 use Rattle.ng_nodes.specs.declared.state.State.{State}
-use Rattle.ng_nodes.specs.Texts.{Text, Parts, part, is_text, is_literal, goes_on, IsRun, NotText, is_blank, all_blank, blank, texted, IsGap, same, keeps}
+use Rattle.ng_nodes.specs.Texts.{Text, Parts, part, is_text, goes_on, IsRun, NotText, texted, IsGap, same, keeps}
 use Rattle.ng_nodes.specs.Grammar.{branch, is_between, Nodes, Branches, Otherwise, Cases}
-use Rattle.ng_nodes.specs.Machine.{Stop, Syntax, Limit, and_then, at, frame, is_gap, shown_run, shown, settled, settle, act, stands, is_switch, between, arrive, begin}
-use Rattle.ng_nodes.proofs.Free.{ended, free, settles, Settles, settled_again, settle_settled, take, take_act, take_on, free_settle}
+use Rattle.ng_nodes.specs.Machine.{Stop, Syntax, and_then, at, frame, is_gap, shown_run, settled, settle, stands, is_switch, between, begin}
+use Rattle.ng_nodes.proofs.Free.{ended, free, settles, Settles, settled_again, take, take_act, take_on, free_settle}
 use Rattle.ng_nodes.proofs.Runs.{gathered, gathered_gap, shown_texted, free_run}
 
 -- what ends the nodes of an element, of a block or of the template

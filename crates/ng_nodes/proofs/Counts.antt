@@ -1,6 +1,6 @@
 -- The number of a reading is that of its nodes, with those inside them.
-use Rattle.std.proofs.Common.{◌≡◌, ℕ, zero, suc, ◌+◌, List, [], ◌∷◌, ◌++◌, length, refl, sym, ◌∙◌, ap, arith}
-use Rattle.std.specs.Prelude.{Bool, true, false, if◌then◌else◌, Option, Some, None}
+use Rattle.std.proofs.Common.{◌≡◌, ℕ, suc, ◌+◌, List, [], ◌∷◌, ◌++◌, length, refl, ap, arith}
+use Rattle.std.specs.Prelude.{Bool, true, false, if◌then◌else◌, Option, Some}
 use Rattle.std.specs.List.{flat_map}
 use Rattle.ng_ast.specs.declared.Place.{Place}
 use Rattle.ng_ast.specs.declared.Expr.{Expr}
@@ -11,7 +11,7 @@ use Rattle.ng_ast.specs.declared.Branch.{Branch}
 use Rattle.ng_ast.specs.declared.TNode.{TNode}
 use Rattle.ng_ast.specs.declared.TNode.TheVariants as node
 use Rattle.ng_ast.specs.Inner.{inner_layer, optional_nodes}
-use Rattle.ng_ast.specs.Nodes.{node_count, count}
+use Rattle.ng_ast.specs.Nodes.{count}
 use Rattle.ng_ast.specs.NodesLaws.{node_count_is}
 use Rattle.ng_lex.specs.declared.markup.Part.{Part}
 use Rattle.ng_nodes.specs.Texts.{Text, Parts, blank, pieces, texted}

@@ -1,23 +1,19 @@
 -- The machine without limits.
-use Rattle.std.proofs.Common.{◌≡◌, ℕ, zero, suc, ◌+◌, List, [], ◌∷◌, ◌++◌, length, refl, sym, ◌∙◌, ap, subst, append_assoc, arith}
+use Rattle.std.proofs.Common.{◌≡◌, ℕ, ◌+◌, List, [], ◌∷◌, refl, sym, ◌∙◌, ap, arith}
 use Rattle.std.proofs.lemmas.List.{append-nil}
-use Rattle.std.specs.Prelude.{Bool, true, false, ◌||◌, Option, Some, None, Result, Ok, Err, if◌then◌else◌}
+use Rattle.std.specs.Prelude.{Bool, true, false, None, Result, Ok, Err, if◌then◌else◌}
 use Rattle.ng_ast.specs.declared.Place.{Place}
 use Rattle.ng_ast.specs.declared.TNode.{TNode}
-use Rattle.ng_lex.specs.declared.markup.Shape.{Shape}
 use Rattle.ng_lex.specs.declared.markup.Shape.TheVariants as shaped
 use Rattle.ng_lex.specs.declared.markup.Markup.{Markup}
 use Rattle.ng_lex.specs.declared.markup.Markup.TheVariants as m
-use Rattle.ng_lex.specs.declared.markup.Part.{Part}
 use Rattle.ng_nodes.specs.declared.state.Opener.{Opener}
 use Rattle.ng_nodes.specs.declared.state.Opener.TheVariants as op
-use Rattle.ng_nodes.specs.declared.state.Waiting.{Waiting}
 use Rattle.ng_nodes.specs.declared.state.Waiting.TheVariants as wt
-use Rattle.ng_nodes.specs.declared.state.Run.{Run}
 use Rattle.ng_nodes.specs.declared.state.Frame.{Frame}
 use Rattle.ng_nodes.specs.declared.state.State.{State}
 use Rattle.ng_nodes.specs.Texts.{Parts, part}
-use Rattle.ng_nodes.specs.Machine.{Stop, Syntax, Limit, and_then, at, shown_run, settled, settle, act, stands, is_switch, between, arrive}
+use Rattle.ng_nodes.specs.Machine.{Stop, Syntax, and_then, at, settled, settle, act, stands, is_switch, between, arrive}
 
 -- the nodes and how many there are with those inside them, where the parts end
 abbrev pub ended : List Frame → State → Result (List TNode × ℕ) Stop

@@ -1,6 +1,6 @@
 -- The number of nodes only grows.
-use Rattle.std.proofs.Common.{◌≡◌, ℕ, zero, suc, ◌+◌, ◌<◌, ◌≤◌, List, [], ◌∷◌, ◌++◌, length, refl, sym, ◌∙◌, ap, subst, arith}
-use Rattle.std.specs.Prelude.{Bool, true, false, ◌||◌, Option, Some, None, Result, Ok, Err, if◌then◌else◌}
+use Rattle.std.proofs.Common.{◌≡◌, ℕ, ◌+◌, ◌≤◌, List, [], ◌∷◌, ◌++◌, length, refl, ap, arith}
+use Rattle.std.specs.Prelude.{Bool, true, false, Option, Some, None, Result, Ok, Err, if◌then◌else◌}
 use Rattle.ng_ast.specs.declared.Place.{Place}
 use Rattle.ng_ast.specs.declared.Expr.{Expr}
 use Rattle.ng_ast.specs.declared.Branch.{Branch}
@@ -8,7 +8,6 @@ use Rattle.ng_ast.specs.declared.Piece.{Piece}
 use Rattle.ng_ast.specs.declared.Piece.TheVariants as piece
 use Rattle.ng_ast.specs.declared.TNode.{TNode}
 use Rattle.ng_ast.specs.declared.TNode.TheVariants as node
-use Rattle.ng_lex.specs.declared.markup.Letter.{Letter}
 use Rattle.ng_lex.specs.declared.markup.Shape.{Shape}
 use Rattle.ng_lex.specs.declared.markup.Shape.TheVariants as shaped
 use Rattle.ng_lex.specs.declared.markup.Markup.{Markup}
@@ -21,9 +20,9 @@ use Rattle.ng_nodes.specs.declared.state.Waiting.TheVariants as wt
 use Rattle.ng_nodes.specs.declared.state.Run.{Run}
 use Rattle.ng_nodes.specs.declared.state.Frame.{Frame}
 use Rattle.ng_nodes.specs.declared.state.State.{State}
-use Rattle.ng_nodes.specs.Texts.{Text, Parts, part, text_of, is_piece, all_blank, same}
+use Rattle.ng_nodes.specs.Texts.{Text, Parts, text_of, is_piece, all_blank, same}
 use Rattle.ng_nodes.specs.Grammar.{branch}
-use Rattle.ng_nodes.specs.Machine.{Stop, Syntax, Limit, and_then, at, is_after_literal, is_gap, joined, shown_run, settle, branch_of, empty_of, heavy_else_if, ended_node, ended_to, ended_branch, end_tag, end_block, end_switch, case_of, act, stands, is_switch, between, arrive}
+use Rattle.ng_nodes.specs.Machine.{Stop, Syntax, and_then, is_after_literal, is_gap, joined, shown_run, settle, branch_of, empty_of, heavy_else_if, ended_node, ended_to, ended_branch, end_tag, end_block, end_switch, case_of, stands, is_switch, between, arrive}
 use Rattle.ng_nodes.proofs.Free.{ended, free}
 use Rattle.ng_nodes.proofs.Sound.{Reads, Was, arrived, reads_no_run}
 

@@ -1,6 +1,6 @@
 -- What the machine does with limits is what it does without them, but where a limit is passed.
-use Rattle.std.proofs.Common.{◌≡◌, ℕ, zero, suc, ◌+◌, ◌<◌, ◌≤◌, List, [], ◌∷◌, ◌++◌, length, refl, sym, ◌∙◌, ap, subst, append_assoc, arith, inl, inr}
-use Rattle.std.specs.Prelude.{Bool, true, false, ◌||◌, ◌⊎◌, nat_lt, Option, Some, None, Result, Ok, Err, if◌then◌else◌}
+use Rattle.std.proofs.Common.{◌≡◌, ℕ, ◌+◌, List, [], ◌∷◌, ◌++◌, refl, sym, subst, inl, inr}
+use Rattle.std.specs.Prelude.{Bool, true, false, ◌⊎◌, Option, Some, None, Result, Ok, Err, if◌then◌else◌}
 use Rattle.ng_ast.specs.declared.Place.{Place}
 use Rattle.ng_ast.specs.declared.Expr.{Expr}
 use Rattle.ng_ast.specs.declared.Branch.{Branch}
@@ -10,18 +10,16 @@ use Rattle.ng_lex.specs.declared.markup.Shape.{Shape}
 use Rattle.ng_lex.specs.declared.markup.Shape.TheVariants as shaped
 use Rattle.ng_lex.specs.declared.markup.Markup.{Markup}
 use Rattle.ng_lex.specs.declared.markup.Markup.TheVariants as m
-use Rattle.ng_lex.specs.declared.markup.Part.{Part}
 use Rattle.ng_nodes.specs.declared.state.Opener.{Opener}
 use Rattle.ng_nodes.specs.declared.state.Opener.TheVariants as op
 use Rattle.ng_nodes.specs.declared.state.Waiting.{Waiting}
 use Rattle.ng_nodes.specs.declared.state.Waiting.TheVariants as wt
 use Rattle.ng_nodes.specs.declared.state.Frame.{Frame}
 use Rattle.ng_nodes.specs.declared.state.State.{State}
-use Rattle.ng_nodes.specs.Texts.{Text, Parts, part, is_piece, all_blank, same}
+use Rattle.ng_nodes.specs.Texts.{Text, part, is_piece, all_blank, same}
 use Rattle.ng_nodes.specs.Grammar.{branch}
-use Rattle.ng_nodes.specs.Machine.{Stop, Syntax, Limit, and_then, is_after_literal, is_gap, settle, branch_of, empty_of, heavy_else_if, ended_node, ended_to, ended_branch, end_tag, end_block, end_switch, case_of, act, stands, is_switch, between, arrive, checked, step, after}
+use Rattle.ng_nodes.specs.Machine.{Stop, Syntax, Limit, is_after_literal, is_gap, branch_of, empty_of, heavy_else_if, ended_node, ended_to, ended_branch, end_tag, end_block, end_switch, case_of, stands, is_switch, between, arrive}
 use Rattle.ng_nodes.specs.Limits.{begins, HasShape, MayBe, is_heavy}
-use Rattle.ng_nodes.proofs.Free.{free}
 
 -- The second answer is the first one without limits, at a part that the first one's may be. At a limit the machine would go on.
 abbrev pub Fits : Bool → Markup → Result State Stop → Result State Stop → Type 0

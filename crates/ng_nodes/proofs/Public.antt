@@ -1,21 +1,20 @@
 -- The laws of whole lists of parts.
-use Rattle.std.proofs.Common.{◌≡◌, ℕ, zero, suc, ◌+◌, ◌<◌, ◌≤◌, List, [], ◌∷◌, ◌++◌, length, refl, sym, ◌∙◌, ap, subst, append_assoc, arith, inl, inr}
+use Rattle.std.proofs.Common.{◌≡◌, ℕ, ◌+◌, ◌<◌, ◌≤◌, List, [], ◌∷◌, ◌++◌, length, refl, sym, ◌∙◌, ap, subst, append_assoc, arith, inl, inr}
 use Rattle.std.proofs.lemmas.List.{append-nil}
-use Rattle.std.specs.Prelude.{Bool, true, false, ◌||◌, ◌⊎◌, nat_lt, Option, Some, None, Result, Ok, Err, if◌then◌else◌}
+use Rattle.std.specs.Prelude.{Bool, true, false, ◌⊎◌, nat_lt, Result, Ok, Err, if◌then◌else◌}
 use Rattle.ng_ast.specs.declared.Place.{Place}
 use Rattle.ng_ast.specs.declared.TNode.{TNode}
 use Rattle.ng_lex.specs.declared.markup.Markup.{Markup}
 use Rattle.ng_lex.specs.declared.markup.Markup.TheVariants as m
 use Rattle.ng_lex.specs.declared.markup.Part.{Part}
-use Rattle.ng_nodes.specs.declared.state.Opener.{Opener}
 use Rattle.ng_nodes.specs.declared.state.Frame.{Frame}
 use Rattle.ng_nodes.specs.declared.state.State.{State}
 use Rattle.ng_nodes.specs.declared.halt.Halt.{Halt}
 use Rattle.ng_nodes.specs.declared.halt.Halt.TheVariants as h
 use Rattle.ng_nodes.specs.Texts.{Parts, part}
 use Rattle.ng_nodes.specs.Grammar.{Nodes}
-use Rattle.ng_nodes.specs.Machine.{Stop, Syntax, Limit, and_then, shown_run, settle, stands, is_switch, between, arrive, checked, step, closed, finish, begin, after, read}
-use Rattle.ng_nodes.specs.Limits.{opened_by, levels, begins, ReadsNodes, IsBegun, HasShape, MayBe, is_heavy, IsTooDeep, IsTooHeavy, HasTooMany, Over}
+use Rattle.ng_nodes.specs.Machine.{Stop, Syntax, Limit, and_then, shown_run, settle, arrive, checked, step, closed, finish, begin, after, read}
+use Rattle.ng_nodes.specs.Limits.{opened_by, levels, begins, ReadsNodes, IsBegun, MayBe, is_heavy, IsTooDeep, IsTooHeavy, HasTooMany, Over}
 use Rattle.ng_nodes.specs.Reading.{OverParts, MayBeParts, AreNoNodes, CannotStand, Halts, IsOrMemory}
 use Rattle.ng_nodes.specs.Gives.{Fails, Answers}
 use Rattle.ng_nodes.proofs.Free.{ended, free}

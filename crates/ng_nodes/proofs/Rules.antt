@@ -1,5 +1,5 @@
 -- The rules of the grammar, with the number of nodes left aside.
-use Rattle.std.proofs.Common.{◌≡◌, ℕ, zero, suc, ◌+◌, List, [], ◌∷◌, ◌++◌, length, refl, sym, ◌∙◌, ap, subst}
+use Rattle.std.proofs.Common.{◌≡◌, ℕ, suc, ◌+◌, List, [], ◌∷◌, ◌++◌, length, subst}
 use Rattle.std.specs.Prelude.{Bool, true, false, ◌||◌, Option, Some, None}
 use Rattle.ng_ast.specs.declared.Place.{Place}
 use Rattle.ng_ast.specs.declared.Expr.{Expr}
@@ -8,7 +8,6 @@ use Rattle.ng_ast.specs.declared.ForHead.{ForHead}
 use Rattle.ng_ast.specs.declared.Branch.{Branch}
 use Rattle.ng_ast.specs.declared.TNode.{TNode}
 use Rattle.ng_ast.specs.declared.TNode.TheVariants as node
-use Rattle.ng_lex.specs.declared.markup.Markup.{Markup}
 use Rattle.ng_lex.specs.declared.markup.Markup.TheVariants as m
 use Rattle.ng_lex.specs.declared.markup.Part.{Part}
 use Rattle.ng_nodes.specs.Texts.{Text, Parts, part, IsRun, NotText, texted, IsGap, keeps}

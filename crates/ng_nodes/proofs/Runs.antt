@@ -1,7 +1,7 @@
 -- A text that is begun is the run of its parts.
-use Rattle.std.proofs.Common.{◌≡◌, ℕ, zero, suc, ◌+◌, List, [], ◌∷◌, ◌++◌, length, refl, sym, ◌∙◌, ap, subst, append_assoc, arith}
+use Rattle.std.proofs.Common.{◌≡◌, ◌+◌, List, [], ◌∷◌, ◌++◌, refl, sym, ◌∙◌, ap, subst, append_assoc}
 use Rattle.std.proofs.lemmas.List.{append-nil}
-use Rattle.std.specs.Prelude.{Bool, true, false, ◌||◌, Option, Some, None, Result, Ok, Err, if◌then◌else◌}
+use Rattle.std.specs.Prelude.{Bool, true, false, Option, Some, None, Ok, Err, if◌then◌else◌}
 use Rattle.ng_ast.specs.declared.Place.{Place}
 use Rattle.ng_ast.specs.declared.Piece.{Piece}
 use Rattle.ng_ast.specs.declared.Piece.TheVariants as piece
@@ -12,12 +12,9 @@ use Rattle.ng_lex.specs.declared.markup.Markup.{Markup}
 use Rattle.ng_lex.specs.declared.markup.Markup.TheVariants as m
 use Rattle.ng_lex.specs.declared.markup.Part.{Part}
 use Rattle.ng_nodes.specs.declared.state.Run.{Run}
-use Rattle.ng_nodes.specs.declared.state.Frame.{Frame}
-use Rattle.ng_nodes.specs.declared.state.Opener.{Opener}
-use Rattle.ng_nodes.specs.declared.state.Waiting.{Waiting}
 use Rattle.ng_nodes.specs.declared.state.State.{State}
-use Rattle.ng_nodes.specs.Texts.{Parts, part, collapsed, text_of, is_piece, is_text, is_literal, goes_on, begins_with_text, AreMaximal, IsRun, piece_of, pieces, all_blank, is_blank, blank, texted, IsGap}
-use Rattle.ng_nodes.specs.Machine.{Stop, Syntax, Limit, and_then, at, is_after_literal, is_gap, joined, shown_run, literal, stands, is_switch}
+use Rattle.ng_nodes.specs.Texts.{Parts, part, collapsed, text_of, is_piece, is_literal, goes_on, begins_with_text, AreMaximal, IsRun, piece_of, pieces, all_blank, is_blank, blank, texted}
+use Rattle.ng_nodes.specs.Machine.{Syntax, and_then, is_after_literal, is_gap, joined, shown_run, literal, stands, is_switch}
 use Rattle.ng_nodes.proofs.Free.{free, take}
 
 -- the text with one more part

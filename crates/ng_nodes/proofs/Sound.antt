@@ -1,5 +1,5 @@
 -- What the machine reads is in the grammar, and what it has read so far is begun.
-use Rattle.std.proofs.Common.{◌≡◌, ℕ, zero, suc, ◌+◌, List, [], ◌∷◌, ◌++◌, length, refl, sym, ◌∙◌, ap, subst, append_assoc, arith}
+use Rattle.std.proofs.Common.{◌≡◌, ℕ, suc, ◌+◌, List, [], ◌∷◌, ◌++◌, length, refl, sym, ◌∙◌, ap, subst, append_assoc}
 use Rattle.std.proofs.lemmas.List.{append-nil}
 use Rattle.std.specs.Prelude.{Bool, true, false, ◌||◌, Option, Some, None, Result, Ok, Err, if◌then◌else◌}
 use Rattle.std.proofs.lemmas.Slice.Eq.{bytes_eq-Decides}
@@ -24,14 +24,14 @@ use Rattle.ng_nodes.specs.declared.state.Waiting.TheVariants as wt
 use Rattle.ng_nodes.specs.declared.state.Run.{Run}
 use Rattle.ng_nodes.specs.declared.state.Frame.{Frame}
 use Rattle.ng_nodes.specs.declared.state.State.{State}
-use Rattle.ng_nodes.specs.Texts.{Text, Parts, part, text_of, is_piece, goes_on, IsRun, NotText, all_blank, blank, texted, IsGap, same, keeps}
+use Rattle.ng_nodes.specs.Texts.{Text, Parts, part, text_of, goes_on, IsRun, all_blank, texted, IsGap, same, keeps}
 use Rattle.ng_nodes.specs.Grammar.{branch, is_between}
-use Rattle.ng_nodes.specs.Machine.{Stop, Syntax, Limit, at, frame, is_after_literal, is_gap, joined, shown_run, shown, settled, settle, branch_of, empty_of, heavy_else_if, back, back_to, ended_branch, end_tag, end_block, end_switch, act, literal, stands, is_switch, between, arrive}
-use Rattle.ng_nodes.specs.Limits.{without_first, open_after, opened_by, levels, IsBegun}
+use Rattle.ng_nodes.specs.Machine.{Stop, Syntax, at, frame, is_after_literal, is_gap, joined, shown_run, shown, settled, settle, branch_of, empty_of, heavy_else_if, ended_branch, end_tag, end_block, stands, is_switch, between, arrive}
+use Rattle.ng_nodes.specs.Limits.{open_after, opened_by, levels, IsBegun}
 use Rattle.ng_nodes.proofs.Rules as rule
 use Rattle.ng_nodes.proofs.Rules.{Reading, reread}
 use Rattle.ng_nodes.proofs.Runs.{more_of, gathered, gathered_append, gathered_literal, gathered_gap, shown_texted}
-use Rattle.ng_nodes.proofs.Begun.{Front, Edge, Starts, starts_more, IfSoFar, BranchEnds, BranchBegun, ForSoFar, EmptyBegun, CasesSoFar, CaseBegun, Within, edge_nodes, none_yet, comment_front, single_front, declare_front, tag_front, switch_front, block_front, if_front, for_front, if_begins, else_if_begins, else_begins, rows_so_far, empty_begins, no_cases_yet, between_cases, case_begins, default_begins, inside_of, close_all}
+use Rattle.ng_nodes.proofs.Begun.{Front, Edge, Starts, starts_more, IfSoFar, BranchEnds, ForSoFar, CaseBegun, Within, edge_nodes, none_yet, comment_front, single_front, declare_front, tag_front, switch_front, block_front, if_front, for_front, if_begins, else_if_begins, else_begins, rows_so_far, empty_begins, no_cases_yet, between_cases, case_begins, default_begins, inside_of, close_all}
 
 -- an `@if` after its nodes, which may go on
 record IfEnded (keep : Bool) (ns : List TNode) (p : Place) (bs : List Branch) (x : Parts) : Type 0 where

@@ -1,16 +1,13 @@
 -- The grammar as a machine that takes one part after another. Its frames are the elements and blocks that are begun and not ended.
-use Rattle.std.specs.Prelude.{◌≡◌, ℕ, zero, suc, ◌+◌, nat_lt, Bool, true, false, ◌||◌, if◌then◌else◌, List, [], ◌∷◌, ◌++◌, length, Option, Some, None, Result, Ok, Err}
+use Rattle.std.specs.Prelude.{ℕ, suc, ◌+◌, nat_lt, Bool, true, false, ◌||◌, if◌then◌else◌, List, [], ◌∷◌, ◌++◌, length, Option, Some, None, Result, Ok, Err}
 use Rattle.ng_ast.specs.declared.Place.{Place}
 use Rattle.ng_ast.specs.declared.Expr.{Expr}
 use Rattle.ng_ast.specs.declared.Piece.{Piece}
 use Rattle.ng_ast.specs.declared.Piece.TheVariants as piece
-use Rattle.ng_ast.specs.declared.TAttr.{TAttr}
-use Rattle.ng_ast.specs.declared.ForHead.{ForHead}
 use Rattle.ng_ast.specs.declared.Branch.{Branch}
 use Rattle.ng_ast.specs.declared.TNode.{TNode}
 use Rattle.ng_ast.specs.declared.TNode.TheVariants as node
 use Rattle.ng_lex.specs.declared.markup.Letter.{Letter}
-use Rattle.ng_lex.specs.declared.markup.Shape.{Shape}
 use Rattle.ng_lex.specs.declared.markup.Shape.TheVariants as shaped
 use Rattle.ng_lex.specs.declared.markup.Markup.{Markup}
 use Rattle.ng_lex.specs.declared.markup.Markup.TheVariants as m

@@ -1,5 +1,5 @@
 -- What the reader of parts answers.
-use Rattle.std.specs.Prelude.{◌≡◌, ℕ, Bool, true, false, List, [], ◌∷◌, ◌++◌, Option, Result, Ok, Err}
+use Rattle.std.specs.Prelude.{◌≡◌, List, [], ◌∷◌, ◌++◌, Result, Ok, Err}
 use Rattle.ng_ast.specs.declared.TNode.{TNode}
 use Rattle.ng_lex.specs.declared.markup.Markup.{Markup}
 use Rattle.ng_lex.specs.declared.markup.Part.{Part}
@@ -7,8 +7,7 @@ use Rattle.ng_nodes.specs.declared.halt.Halt.{Halt}
 use Rattle.ng_nodes.specs.declared.halt.Halt.TheVariants as h
 use Rattle.ng_nodes.specs.declared.builder.Builder.{Builder}
 use Rattle.ng_nodes.specs.Texts.{Parts, part}
-use Rattle.ng_nodes.specs.Grammar.{Nodes}
-use Rattle.ng_nodes.specs.Machine.{Stop, Syntax, Limit, begin, after}
+use Rattle.ng_nodes.specs.Machine.{Syntax, Limit, begin, after}
 use Rattle.ng_nodes.specs.Limits.{ReadsNodes, MayBe, Over}
 
 -- the builder has read these parts

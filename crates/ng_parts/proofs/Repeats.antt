@@ -3,7 +3,7 @@ use Rattle.std.proofs.Common.{◌≡◌, ℕ, ◌<◌, Bool, true, false, cond, 
 use Rattle.std.proofs.lemmas.List.{drop_more}
 use Rattle.std.specs.HashSet.{HashSet, contains}
 use Rattle.ng_parts.specs.declared.site.Site.{Site}
-use Rattle.ng_parts.specs.Sites.{Name, is_among, when, repeats, repeats_after}
+use Rattle.ng_parts.specs.Sites.{Name, is_among, when, repeats_after}
 
 abbrev pub Keys : {S : Type 0} → HashSet Name S → List Name → Type 0
 Keys set seen = (q : Name) → contains bytes_eq set q ≡ is_among seen q

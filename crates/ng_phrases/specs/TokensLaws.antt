@@ -9,7 +9,7 @@ use Rattle.ng_tokens.specs.declared.kinds.Shape.{Shape}
 use Rattle.ng_tokens.specs.declared.kinds.Kind.{Kind}
 use Rattle.ng_tokens.specs.declared.kinds.Token.{Token}
 use Rattle.ng_tokens.specs.Lexis.{Text, is_blank, opens_comment, comment_len, step, steps, Written, kind_of, fits, Longest, Lexes}
-use Rattle.ng_tokens.specs.Scan.{piece, shape, fitted, with_len, token_at}
+use Rattle.ng_tokens.specs.Scan.{piece, shape, token_at}
 use Rattle.ng_tokens.proofs.SignTable.{no_true}
 use Rattle.ng_tokens.proofs.Shapes.{shape_is}
 use Rattle.ng_tokens.proofs.Pieces.{cuts, Cuts, IsPiece, not_empty, no_blank, some_same}

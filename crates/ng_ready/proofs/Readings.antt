@@ -1,5 +1,4 @@
 -- Applications that are read within the limits are sized.
-use Rattle.std.proofs.Common.{List}
 use Rattle.std.proofs.lemmas.List.Elements.{All-contains}
 use Rattle.ng_ast.specs.declared.App.{App}
 use Rattle.ng_ast.specs.declared.Decl.TheVariants as decl

@@ -95,7 +95,7 @@ single_is tag other attrs more e d = ap (λ k. m.Single k attrs) e ∙ ap (m.Sin
 start_is : (tag other : Text) (attrs more : List TAttr) → tag ≡ other → attrs ≡ more → m.Start tag attrs ≡ m.Start other more
 start_is tag other attrs more e d = ap (λ k. m.Start k attrs) e ∙ ap (m.Start other) d
 
-one_start : (p : Place) (a : Text) (c d : Markup) → Tagged p a c → Tagged p a d → c ≡ d
+pub one_start : (p : Place) (a : Text) (c d : Markup) → Tagged p a c → Tagged p a d → c ≡ d
 one_start p a c d t u = by t.which u.which
   where
     same : (t.tag ≡ u.tag) × (t.closed ≡ u.closed) × (t.attrs ≡ u.attrs)
@@ -115,8 +115,8 @@ blank_stops (b ∷ w) h = blank_no (both_true (is_blank b) (all is_blank w) h).0
     blank_no : is_blank b ≡ true → in_tag b ≡ false
     blank_no e = grind arith
 
-one_end : (p : Place) (a : Text) (c d : Markup) → Ended a c → Ended a d → c ≡ d
-one_end p a c d t u =
+pub one_end : (a : Text) (c d : Markup) → Ended a c → Ended a d → c ≡ d
+one_end a c d t u =
     t.which ∙ ap m.End (same_runs in_tag t.tag u.tag (t.w ++ (62 ∷ [])) (u.w ++ (62 ∷ [])) (same_tail 47 (same_tail 60 (sym t.is ∙ u.is))) (tag_all t.tag t.name.0) (tag_all u.tag u.name.0) (blank_stops t.w t.blank) (blank_stops u.w u.blank)).0 ∙ sym u.which
 
 -- ---- end tags
@@ -189,4 +189,4 @@ start_exact at r o h t z c span w calm =
 
 pub end_exact : (at : At) (r : Result Markup Stop) (o : Result Markup Halt) → AnswersTag kind.End at r → Tells r o → (z : Text) (c : Markup) → IsSpan kind.End at.text.now z → IsWritten at.place at.text.now c → IsCalm at.place at.text.now z → IsOrMemory c o
 end_exact at r o h t z c span w calm =
-    exact_by kind.End at r o h t z c (λ d i. one_end at.place at.text.now d c (ended at.place at.text.now d (span_ends at.text.now z span) i) (ended at.place at.text.now c (span_ends at.text.now z span) w)) span w calm
+    exact_by kind.End at r o h t z c (λ d i. one_end at.text.now d c (ended at.place at.text.now d (span_ends at.text.now z span) i) (ended at.place at.text.now c (span_ends at.text.now z span) w)) span w calm

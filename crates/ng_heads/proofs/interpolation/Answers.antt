@@ -1,4 +1,4 @@
-use Rattle.std.proofs.Common.{sym, ap, ◌∙◌, ◌-◌, subst, arith, length, take}
+use Rattle.std.proofs.Common.{ap, ◌∙◌, ◌-◌, subst, arith, length, take}
 use Rattle.std.specs.Str.{IsUtf8}
 use Rattle.ng_heads.proofs.LetLaws.{inner_size, outer_boundary, inner_boundary, inner_text, inner_place, interpolation_read, interpolation_turned}
 use Rattle.ng_heads.proofs.interpolation.Goals as goal

@@ -1,6 +1,4 @@
 use Rattle.std.proofs.Common.{length}
-use denote.Text.{Utf8}
-use denote.Shadow.{shadow}
 use Rattle.ng_attributes.specs.Spelling.{IsSpelled}
 use Rattle.ng_attributes.specs.Pieces.{GoesPieces}
 use Rattle.ng_attributes.proofs.pieces.pieces.Given as goal

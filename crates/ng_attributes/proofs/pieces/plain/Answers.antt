@@ -1,4 +1,4 @@
-use Rattle.std.proofs.Common.{◌≡◌, List, length, sym, ◌∙◌, ap, subst}
+use Rattle.std.proofs.Common.{List, length, sym, ◌∙◌, ap, subst}
 use Rattle.std.specs.Prelude.{string_bytes}
 use Rattle.ng_ast.specs.declared.Piece.{Piece}
 use Rattle.ng_lex.specs.Values.{ReadsPieces, OverPieces}

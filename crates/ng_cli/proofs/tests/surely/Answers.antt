@@ -1,4 +1,4 @@
-use Rattle.std.proofs.Common.{ℕ, arith, inl, inr, ◌⊎◌}
+use Rattle.std.proofs.Common.{ℕ, arith, inl, inr}
 use Rattle.ng_outside.specs.Causes.{Rose}
 use Rattle.ng_semantics.specs.Text.{Text}
 use Rattle.ng_cli.specs.Words.{Task, Runs, Checks}

@@ -1,4 +1,4 @@
-use Rattle.std.proofs.Common.{sym, ◌∙◌, ap}
+use Rattle.std.proofs.Common.{◌∙◌, ap}
 use Rattle.std.specs.List.{prefix_len}
 use Rattle.ng_attributes.specs.Runs.{passes}
 use Rattle.ng_attributes.proofs.Runs.{run_boundary, run_cut}
