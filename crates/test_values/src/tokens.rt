@@ -1,7 +1,7 @@
 //! The tokens of a text, with their places.
 
-use super::*;
 use ng_ast::Place;
+use ng_tokens::scan;
 
 const BASE: Place = Place {
     line: 1,
@@ -9,28 +9,19 @@ const BASE: Place = Place {
     byte: 0,
 };
 
-fn count(rt: &HostRuntime, text: &str) -> Option<usize> {
+// How many tokens the text has, and the place of the last one; nothing where it is refused.
+fn scanned(rt: &HostRuntime, text: &str) -> Option<(usize, Option<Place>)> {
     if text.len() > 1000 {
         return None;
     }
     match scan(rt.alloc(), true, text, BASE) {
-        Ok(tokens) => Some(tokens.len()),
-        Err(_) => None,
-    }
-}
-
-fn last(rt: &HostRuntime, text: &str) -> Option<Place> {
-    if text.len() > 1000 {
-        return None;
-    }
-    match scan(rt.alloc(), true, text, BASE) {
-        Ok(tokens) => tokens.last().map(|token| token.place),
+        Ok(tokens) => Some((tokens.len(), tokens.last().map(|token| token.place))),
         Err(_) => None,
     }
 }
 
 #[test]
-fn counts(rt: HostRuntime) {
+fn tokens_are_counted(rt: HostRuntime) {
     for (text, want) in [
         ("", Some(0)),
         ("a===b!==c==d!=e<=f>=g", Some(13)),
@@ -48,12 +39,13 @@ fn counts(rt: HostRuntime) {
         ("a & b", None),
         ("é", None),
     ] {
-        assert_eq!(rt; count(&rt, text), want, "{text}");
+        let number = scanned(&rt, text).map(|(number, _)| number);
+        assert_eq!(rt; number, want, "{text}");
     }
 }
 
 #[test]
-fn places(rt: HostRuntime) {
+fn tokens_have_places(rt: HostRuntime) {
     let second_line = Place {
         line: 2,
         column: 5,
@@ -64,6 +56,10 @@ fn places(rt: HostRuntime) {
         column: 8,
         byte: 8,
     };
-    assert_eq!(rt; last(&rt, "'é' /* é\n */ 'é'"), Some(second_line));
-    assert_eq!(rt; last(&rt, "'é'\t\r\x0c +"), Some(after_blanks));
+    for (text, number, place) in [
+        ("'é' /* é\n */ 'é'", 2, second_line),
+        ("'é'\t\r\x0c +", 2, after_blanks),
+    ] {
+        assert_eq!(rt; scanned(&rt, text), Some((number, Some(place))), "{text}");
+    }
 }
