@@ -6,4 +6,6 @@ mod exprs;
 #[cfg(test)]
 mod lex;
 #[cfg(test)]
+mod phrases;
+#[cfg(test)]
 mod selectors;
