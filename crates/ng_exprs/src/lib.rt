@@ -122,6 +122,3 @@ pub fn one_tree()
 pub fn one_reading()
     ensures { (comments : Bool) (base : Place) (t : List ℕ) (a b : Expr) → ReadsExpr comments base t a → ReadsExpr comments base t b → a ≡ b }
 {}
-
-#[cfg(test)]
-mod tests;
