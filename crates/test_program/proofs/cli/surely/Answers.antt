@@ -1,13 +1,12 @@
-use Rattle.std.proofs.Common.{ℕ, arith, inl, inr}
+use Rattle.std.proofs.Common.{ℕ, List, arith, inl, inr}
 use Rattle.ng_outside.specs.Causes.{Rose}
-use Rattle.ng_semantics.specs.Text.{Text}
 use Rattle.ng_cli.specs.Words.{Task, Runs, Checks}
 use Rattle.ng_cli.specs.Allowed.{Told}
 use Rattle.ng_cli.specs.Causes.{EventsFailed}
-use Rattle.ng_cli.proofs.tests.surely.Goals as goal
+use Rattle.test_program.proofs.cli.surely.Goals as goal
 
 -- where no fetch fails, none of the events does
-no_events : (task : Task) (told : Told) (before after : Text → ℕ) → EventsFailed task told before after → ((name : Text) → Rose (before name) (after name) → ⊥) → ⊥
+no_events : (task : Task) (told : Told) (before after : List ℕ → ℕ) → EventsFailed task told before after → ((name : List ℕ) → Rose (before name) (after name) → ⊥) → ⊥
 no_events (Runs app events) told before after failed none = none events failed.0
 no_events (Checks app) told before after failed none = failed
 

@@ -1,6 +1,8 @@
+//! The whole call over shelves and sinks in memory: sure ones, and ones where a fetch or a put fails.
+
 ghost use Rattle.std.specs.Prelude.{◌≡◌, ◌≢◌};
 
-use crate::top::ivy;
+use ng_cli::ivy;
 use ng_outside::{MemShelf, MemSink, SureShelf, SureSink};
 use std::alloc::{AllocError, Global};
 use std::test::Fail;
@@ -43,14 +45,6 @@ fn words(alloc: Global) -> Result<Vec<String>, AllocError> {
     Ok(words)
 }
 
-fn check_words(alloc: Global) -> Result<Vec<String>, AllocError> {
-    let mut words = Vec::new(alloc);
-    for word in ["check", "a.ng"] {
-        words.push(String::from_str(alloc, word)?)?;
-    }
-    Ok(words)
-}
-
 fn file(alloc: Global, name: &str, text: &str) -> Result<(String, Vec<u8>), AllocError> {
     let bytes = Vec::from_slice(alloc, text.as_bytes())?;
     Ok((String::from_str(alloc, name)?, bytes))
@@ -71,17 +65,6 @@ fn prints_the_pages(rt: HostRuntime) -> Result<(), Fail> {
     let mut sink = SureSink::new(alloc);
     assert_eq!(rt; surely(alloc, &words, &mut shelf, &mut sink), 0);
     assert!(rt; sink.bytes() == PAGES.as_bytes());
-    Ok(())
-}
-
-#[test]
-fn checks_an_application(rt: HostRuntime) -> Result<(), Fail> {
-    let alloc = rt.alloc();
-    let words = check_words(alloc)?;
-    let mut shelf = SureShelf::new(files(alloc)?);
-    let mut sink = SureSink::new(alloc);
-    assert_eq!(rt; surely(alloc, &words, &mut shelf, &mut sink), 0);
-    assert!(rt; sink.bytes() == "sound quiet\n".as_bytes());
     Ok(())
 }
 
