@@ -263,16 +263,18 @@ impl<F: Fn(Global, &mut Tokens, usize) -> Result<Expr, Halt>> Rules<F> {
     fn member(&self, tokens: &mut Tokens, place: Place, owner: Expr) -> Result<Expr, Halt>
         ensures { Gives (spec.member (spec.brackets spec.turns self.now.depth) place owner tokens.old) result tokens.new }
     {
+        let owner = Boxed::new(self.alloc, owner)?;
         let name = tokens.name()?;
-        Ok(Expr::Member(place, Boxed::new(self.alloc, owner)?, name))
+        Ok(Expr::Member(place, owner, name))
     }
 
     #[tactic(auto, unfolding(crate::specs::Parse::safe))]
     fn safe(&self, tokens: &mut Tokens, place: Place, owner: Expr) -> Result<Expr, Halt>
         ensures { Gives (spec.safe (spec.brackets spec.turns self.now.depth) place owner tokens.old) result tokens.new }
     {
+        let owner = Boxed::new(self.alloc, owner)?;
         let name = tokens.name()?;
-        Ok(Expr::Safe(place, Boxed::new(self.alloc, owner)?, name))
+        Ok(Expr::Safe(place, owner, name))
     }
 
     #[tactic(auto, unfolding(crate::specs::Parse::index))]
@@ -280,13 +282,10 @@ impl<F: Fn(Global, &mut Tokens, usize) -> Result<Expr, Halt>> Rules<F> {
         requires { Nests self.now.depth (F.pre self.now.whole) (F.post self.now.whole) }
         ensures { Gives (spec.index (spec.brackets spec.turns self.now.depth) place owner tokens.old) result tokens.new }
     {
-        let at = self.within(tokens)?;
+        let owner = Boxed::new(self.alloc, owner)?;
+        let at = Boxed::new(self.alloc, self.within(tokens)?)?;
         tokens.expect(Sign::CloseSquare)?;
-        Ok(Expr::Index(
-            place,
-            Boxed::new(self.alloc, owner)?,
-            Boxed::new(self.alloc, at)?,
-        ))
+        Ok(Expr::Index(place, owner, at))
     }
 
     #[tactic(auto, unfolding(crate::specs::Parse::call))]
@@ -294,8 +293,9 @@ impl<F: Fn(Global, &mut Tokens, usize) -> Result<Expr, Halt>> Rules<F> {
         requires { Nests self.now.depth (F.pre self.now.whole) (F.post self.now.whole) }
         ensures { Gives (spec.call (spec.brackets spec.turns self.now.depth) place callee tokens.old) result tokens.new }
     {
+        let callee = Boxed::new(self.alloc, callee)?;
         let args = self.all_of(tokens, Sign::CloseRound)?;
-        Ok(Expr::Call(place, Boxed::new(self.alloc, callee)?, args))
+        Ok(Expr::Call(place, callee, args))
     }
 
     /// What follows an operand; `named` says that it ends in a name, so that a call may follow.
@@ -426,9 +426,10 @@ impl<F: Fn(Global, &mut Tokens, usize) -> Result<Expr, Halt>> Rules<F> {
         requires { Nests self.now.depth (F.pre self.now.whole) (F.post self.now.whole) }
         ensures { Gives (spec.pipe (spec.brackets spec.turns self.now.depth) place value tokens.old) result tokens.new }
     {
+        let value = Boxed::new(self.alloc, value)?;
         let name = tokens.name()?;
         let arguments = self.arguments(tokens, TURNS)?;
-        Ok(Expr::Pipe(place, Boxed::new(self.alloc, value)?, name, arguments))
+        Ok(Expr::Pipe(place, value, name, arguments))
     }
 
     fn pipes(
