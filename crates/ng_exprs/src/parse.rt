@@ -107,17 +107,6 @@ fn binary(alloc: Global, place: Place, op: Binary, a: Expr, b: Expr) -> Result<E
     Ok(Expr::Binary(place, op, Boxed::new(alloc, a)?, Boxed::new(alloc, b)?))
 }
 
-fn choice(alloc: Global, place: Place, c: Expr, a: Expr, b: Expr) -> Result<Expr, AllocError>
-    ensures { IfOk result (λ e. e ≡ Expr.Choose place c a b) }
-{
-    Ok(Expr::Choose(
-        place,
-        Boxed::new(alloc, c)?,
-        Boxed::new(alloc, a)?,
-        Boxed::new(alloc, b)?,
-    ))
-}
-
 /// The rules at a place where some brackets are open.
 #[derive(Clone, Copy)]
 pub struct Rules<F> {
@@ -217,7 +206,11 @@ impl<F: Fn(Global, &mut Tokens, usize) -> Result<Expr, Halt>> Rules<F> {
         ensures { Gives (spec.group (spec.brackets spec.turns self.now.depth) place tokens.old) result tokens.new }
     {
         let inner = self.within(tokens)?;
-        tokens.expect(Sign::CloseRound)?;
+        if let Err(halt) = tokens.expect(Sign::CloseRound) {
+            // by a call, which is proved once
+            drop(inner);
+            return Err(halt);
+        }
         Ok(Expr::Group(place, Boxed::new(self.alloc, inner)?))
     }
 
@@ -400,10 +393,13 @@ impl<F: Fn(Global, &mut Tokens, usize) -> Result<Expr, Halt>> Rules<F> {
             return Ok(test);
         }
         tokens.skip();
+        let test = Boxed::new(self.alloc, test)?;
         let yes = self.chosen(tokens, turns - 1)?;
+        let yes = Boxed::new(self.alloc, yes)?;
         tokens.expect(Sign::Colon)?;
         let no = self.chosen(tokens, turns - 1)?;
-        Ok(choice(self.alloc, place, test, yes, no)?)
+        let no = Boxed::new(self.alloc, no)?;
+        Ok(Expr::Choose(place, test, yes, no))
     }
 
     fn arguments(&self, tokens: &mut Tokens, turns: usize) -> Result<Items<Expr>, Halt>
