@@ -1,12 +1,17 @@
-//! The program `ivy`: the call `ng_cli::ivy` over the machine's files and its standard output.
+//! The program `ivy`: the call `ng_cli::ivy` over the machine's files and its standard output. Why a call gave no answer is told on standard
+//! error.
 #![tactic(auto)]
 
+mod telling;
+
 use ng_cli::ivy;
+use ng_diagnoses::{NotedShelf, NotedSink};
 use ng_outside::{HostShelf, HostSink};
 use std::env;
 use std::io::{self, ErrorKind};
 use std::process::ExitCode;
 use std::rt::Env;
+use telling::tell;
 
 // The words behind the program's name. Words that aren't text are as good as none.
 fn words(rt: &(impl Env + AllocGlobal)) -> io::Result<Vec<String>> {
@@ -25,8 +30,9 @@ fn words(rt: &(impl Env + AllocGlobal)) -> io::Result<Vec<String>> {
 
 fn main(rt: HostRuntime) -> io::Result<ExitCode> {
     let words = words(&rt)?;
-    let mut shelf = HostShelf::new(&rt);
-    let mut sink = HostSink::new(&rt);
+    let mut shelf = NotedShelf::new(HostShelf::new(&rt));
+    let mut sink = NotedSink::new(rt.alloc(), HostSink::new(&rt));
     let status = ivy(rt.alloc(), words.as_slice(), &mut shelf, &mut sink);
+    tell(&rt, status, words.as_slice(), &shelf, &sink);
     Ok(ExitCode::from(status))
 }
