@@ -68,7 +68,7 @@ fn columns_before(line: &str, count: usize) -> usize {
 }
 
 // The columns that are shown of a line in which a place has so many columns before it.
-fn window(before: usize) -> Window {
+fn window_for(before: usize) -> Window {
     let from = if before > WITH_FRONT {
         before - LEAD
     } else {
@@ -109,9 +109,9 @@ fn push_window(text: &mut String, line: &str, window: Window) -> Result<(), Allo
 }
 
 /// What is shown of a line with a place behind so many of its characters.
-pub(crate) fn excerpt(alloc: Global, line: &str, count: usize) -> Result<Excerpt, AllocError> {
+pub(crate) fn excerpt_at(alloc: Global, line: &str, count: usize) -> Result<Excerpt, AllocError> {
     let before = columns_before(line, count);
-    let window = window(before);
+    let window = window_for(before);
     let mut text = String::new(alloc);
     if window.from > 0 {
         text.push_str(CUT)?;

@@ -5,18 +5,18 @@
 mod excerpt;
 mod fetching;
 mod names;
-mod nearest;
 mod refused;
 mod report;
 mod rules;
 mod shelf;
 mod sink;
+mod spelling;
 mod words;
 
 pub use fetching::why_not_fetched;
-pub use nearest::nearest;
 pub use refused::{Kind, Refused, Spot};
 pub use report::{Source, diagnosis};
 pub use shelf::NotedShelf;
 pub use sink::NotedSink;
+pub use spelling::nearest;
 pub use words::wrong_words;

@@ -199,14 +199,18 @@ fn push_branch_names<'a>(
     Ok(())
 }
 
-// The references and the variables among the attributes of an element.
+// The references among the attributes of an element, and the variables, where a name in scope is wanted.
 fn push_attribute_names<'a>(
     attributes: &'a [TAttr],
+    wanted: Wanted,
     found: &mut Vec<&'a str>,
 ) -> Result<(), AllocError> {
     for attribute in attributes {
         match &attribute.form {
-            AttrForm::Reference | AttrForm::Variable(_) => found.push(attribute.name.as_str())?,
+            AttrForm::Reference => found.push(attribute.name.as_str())?,
+            AttrForm::Variable(_) if wanted == Wanted::InScope => {
+                found.push(attribute.name.as_str())?
+            }
             _ => {}
         }
     }
@@ -222,11 +226,12 @@ fn push_node_names<'a>(
     match node {
         TNode::Element(_, tag, attributes, _) => {
             if wanted == Wanted::InScope || tag.as_str() == "ng-template" {
-                push_attribute_names(attributes.as_slice(), found)?;
+                push_attribute_names(attributes.as_slice(), wanted, found)?;
             }
             Ok(())
         }
         TNode::Text(_, _) => Ok(()),
+        _ if wanted != Wanted::InScope => Ok(()),
         TNode::If(_, branches) => push_branch_names(branches.as_slice(), found),
         TNode::For(_, head, _, _) => {
             found.push(head.row.as_str())?;

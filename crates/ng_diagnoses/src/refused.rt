@@ -1,14 +1,14 @@
 //! The line by which a file is refused, taken apart.
 
 /// A place of a file: its line and its column, both from 1. A column counts characters.
-#[derive(Clone, Copy, Debug, PartialEq, Eq, PartialOrd, Ord)]
+#[derive(Clone, Copy)]
 pub struct Spot {
     pub line: u32,
     pub column: u32,
 }
 
 /// Why a file is refused.
-#[derive(Clone, Copy, Debug, PartialEq, Eq)]
+#[derive(Clone, Copy)]
 pub enum Kind {
     TooLong,
     Utf8,
@@ -20,7 +20,7 @@ pub enum Kind {
 }
 
 /// What a line that refuses a file says.
-#[derive(Clone, Copy, Debug, PartialEq, Eq)]
+#[derive(Clone, Copy)]
 pub struct Refused<'a> {
     /// Whether the file is the application; else it holds the events.
     pub is_app: bool,

@@ -1,11 +1,11 @@
 //! The diagnosis of a refused file.
 
-use crate::excerpt::{excerpt, line_of, push_shown, push_spaces};
+use crate::excerpt::{excerpt_at, line_of, push_shown, push_spaces};
 use crate::names::names_for;
-use crate::nearest::nearest;
 use crate::refused::{Kind, Refused, Spot};
-use crate::rules::{help, sentence};
-use ng_ast::App;
+use crate::rules::{help_for, sentence_for};
+use crate::spelling::nearest;
+use ng_ast::{App, Decl};
 use std::alloc::{AllocError, Global};
 
 // The characters that are told of a name at most.
@@ -30,15 +30,40 @@ fn push_name(text: &mut String, name: &str) -> Result<(), AllocError> {
     Ok(())
 }
 
+// Whether an application names no root component.
+fn is_without_root(app: &App) -> bool {
+    for decl in app.decls.as_slice() {
+        if let Decl::Bootstrap(_, _, _) = decl {
+            return false;
+        }
+    }
+    true
+}
+
+// What the first line says behind the title.
+fn push_sentence(
+    text: &mut String,
+    refused: &Refused,
+    app: Option<&App>,
+) -> Result<(), AllocError> {
+    match (refused.kind, app) {
+        (Kind::Rule(1), Some(app)) if is_without_root(app) => {
+            return text.push_str("there is no `bootstrap`");
+        }
+        _ => {}
+    }
+    let (before, behind) = sentence_for(refused.kind, refused.is_app);
+    text.push_str(before)?;
+    push_name(text, refused.name)?;
+    text.push_str(behind)
+}
+
 // The first line: what is refused, in a sentence.
-fn push_title(text: &mut String, refused: &Refused) -> Result<(), AllocError> {
-    let (before, behind) = sentence(refused.kind, refused.is_app);
+fn push_title(text: &mut String, refused: &Refused, app: Option<&App>) -> Result<(), AllocError> {
     text.push_str("error[")?;
     text.push_str(refused.title)?;
     text.push_str("]: ")?;
-    text.push_str(before)?;
-    push_name(text, refused.name)?;
-    text.push_str(behind)?;
+    push_sentence(text, refused, app)?;
     text.push_str("\n")
 }
 
@@ -76,7 +101,7 @@ fn push_excerpt(
     spot: Spot,
     margin: usize,
 ) -> Result<(), AllocError> {
-    let shown = excerpt(alloc, line, spot.column.saturating_sub(1) as usize)?;
+    let shown = excerpt_at(alloc, line, spot.column.saturating_sub(1) as usize)?;
     let number = spot.line;
     push_spaces(text, margin)?;
     text.push_str(" |\n")?;
@@ -122,14 +147,14 @@ fn push_nearest(
     let Some(name) = names.get(index) else {
         return Ok(());
     };
-    let help = format!(in alloc; "there is `{name}`, which is spelled nearly so")?;
+    let help = format!(in alloc; "did you mean `{name}`?")?;
     push_help(text, margin, help.as_str())
 }
 
 /// What a person reads of a refused file: what is refused and why, the place, the line of the file with a mark under the place, and what can be done.
 pub fn diagnosis(alloc: Global, refused: &Refused, source: Source) -> Result<String, AllocError> {
     let mut text = String::new(alloc);
-    push_title(&mut text, refused)?;
+    push_title(&mut text, refused, source.app)?;
     let mut margin = 1;
     match spot_told(refused, source) {
         Some(spot) => {
@@ -151,7 +176,7 @@ pub fn diagnosis(alloc: Global, refused: &Refused, source: Source) -> Result<Str
         }
     }
     push_nearest(alloc, &mut text, refused, source, margin)?;
-    if let Some(help) = help(refused.kind, refused.is_app) {
+    if let Some(help) = help_for(refused.kind, refused.is_app) {
         push_help(&mut text, margin, help)?;
     }
     Ok(text)

@@ -69,7 +69,7 @@ fn rule_on_declarations(number: u8) -> Sentence {
 }
 
 /// What a refusal says of its name; without a name the two parts are one sentence.
-pub(crate) fn sentence(kind: Kind, is_app: bool) -> Sentence {
+pub(crate) fn sentence_for(kind: Kind, is_app: bool) -> Sentence {
     match kind {
         Kind::TooLong if is_app => ("an application has at most 1,048,576 bytes", ""),
         Kind::TooLong => ("a list of events has at most 4,194,304 bytes", ""),
@@ -129,7 +129,7 @@ fn help_on_templates(number: u8) -> Option<&'static str> {
         ),
         27 => Some("leave one `@default` out"),
         28 => Some("write `; track` and what tells the rows apart, as `track item.id`"),
-        30 => Some("name the value in the listener: `$event` is what its event or output gives"),
+        30 => Some("`$event` is what an event or an output gives, and stands in listeners alone"),
         _ => None,
     }
 }
@@ -151,7 +151,7 @@ fn help_on_declarations(number: u8) -> Option<&'static str> {
 }
 
 /// What can be done about a refusal, where that is plain.
-pub(crate) fn help(kind: Kind, is_app: bool) -> Option<&'static str> {
+pub(crate) fn help_for(kind: Kind, is_app: bool) -> Option<&'static str> {
     match kind {
         Kind::Limit => Some("docs/LANGUAGE.md has the limits"),
         Kind::NotBuilt if is_app => Some(

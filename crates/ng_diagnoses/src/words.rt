@@ -1,6 +1,6 @@
 //! What is wrong with the words of a call.
 
-use crate::nearest::nearest;
+use crate::spelling::nearest;
 use std::alloc::{AllocError, Global};
 
 // The flags of a run.
@@ -26,7 +26,7 @@ fn unknown(alloc: Global, what: &str, word: &str, known: &[&str]) -> Result<Stri
     let mut text = format!(in alloc; "there is no {what} `{word}`")?;
     if let Some(index) = nearest(alloc, known, word)? {
         if let Some(name) = known.get(index) {
-            let near = format!(in alloc; "; `{name}` is spelled nearly so")?;
+            let near = format!(in alloc; "; did you mean `{name}`?")?;
             text.push_str(near.as_str())?;
         }
     }
@@ -93,8 +93,14 @@ fn wrong_check(alloc: Global, given: &Given) -> Result<String, AllocError> {
 // What is wrong with the words of a run.
 fn wrong_run(alloc: Global, given: &Given) -> Result<String, AllocError> {
     match given.others.len() {
-        0 | 1 => return String::from_str(alloc, "APP is missing: `run` takes the names of two files"),
-        2 => return String::from_str(alloc, "EVENTS is missing: `run` takes the names of two files"),
+        0 | 1 => return String::from_str(
+            alloc,
+            "APP is missing: `run` takes the names of two files",
+        ),
+        2 => return String::from_str(
+            alloc,
+            "EVENTS is missing: `run` takes the names of two files",
+        ),
         _ => {}
     }
     match given.flags.iter().find(|flag| **flag != "--every") {

@@ -11,7 +11,8 @@ fn reach(length: usize) -> usize {
     (length / 3).max(1).min(length.saturating_sub(1))
 }
 
-/// Which of these names is nearest to a word, the first of several, if one is near: if few edits, exchanges of neighbours among them, lead to it.
+/// Which of these names is nearest to a word and differs from it, the first of several, if one is near: if few edits, exchanges of neighbours
+/// among them, lead to it.
 pub fn nearest(alloc: Global, names: &[&str], word: &str) -> Result<Option<usize>, AllocError> {
     if word.len() > LONGEST {
         return Ok(None);
@@ -21,7 +22,7 @@ pub fn nearest(alloc: Global, names: &[&str], word: &str) -> Result<Option<usize
     for (index, name) in names.iter().enumerate() {
         if name.len() <= LONGEST {
             let distance = osa_distance(alloc, name, word)?;
-            if distance < least {
+            if 0 < distance && distance < least {
                 least = distance;
                 found = Some(index);
             }
