@@ -13,18 +13,26 @@ use std::process::ExitCode;
 use std::rt::Env;
 use telling::tell;
 
-// The words behind the program's name. Words that aren't text are as good as none.
-fn words(rt: &(impl Env + AllocGlobal)) -> io::Result<Vec<String>> {
+// The words behind the program's name, if they are text.
+fn words(rt: &(impl Env + AllocGlobal)) -> io::Result<Option<Vec<String>>> {
     let mut words = Vec::new(rt.alloc());
     match env::args(rt) {
         Ok(all) => {
             for word in all.skip(1) {
                 words.push(word)?;
             }
-            Ok(words)
+            Ok(Some(words))
         }
-        Err(error) if error.kind() == ErrorKind::InvalidData => Ok(words),
+        Err(error) if error.kind() == ErrorKind::InvalidData => Ok(None),
         Err(error) => Err(error),
+    }
+}
+
+// The words as a slice. Words that aren't text are as good as none.
+fn slice_of(words: &Option<Vec<String>>) -> &[String] {
+    match words {
+        Some(words) => words.as_slice(),
+        None => &[],
     }
 }
 
@@ -32,7 +40,7 @@ fn main(rt: HostRuntime) -> io::Result<ExitCode> {
     let words = words(&rt)?;
     let mut shelf = NotedShelf::new(HostShelf::new(&rt));
     let mut sink = NotedSink::new(rt.alloc(), HostSink::new(&rt));
-    let status = ivy(rt.alloc(), words.as_slice(), &mut shelf, &mut sink);
-    tell(&rt, status, words.as_slice(), &shelf, &sink);
+    let status = ivy(rt.alloc(), slice_of(&words), &mut shelf, &mut sink);
+    tell(&rt, status, &words, &shelf, &sink);
     Ok(ExitCode::from(status))
 }

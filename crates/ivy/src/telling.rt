@@ -20,6 +20,18 @@ fn app_of(alloc: Global, bytes: Option<&[u8]>) -> Option<App> {
     }
 }
 
+// The text that stands at the front of these bytes.
+fn front_of(bytes: &[u8]) -> &str {
+    let fault = match str::from_utf8(bytes) {
+        Ok(text) => return text,
+        Err(fault) => fault,
+    };
+    match bytes.get(..fault.valid_up_to()) {
+        Some(front) => str::from_utf8(front).unwrap_or(""),
+        None => "",
+    }
+}
+
 // The diagnosis of the file that was fetched last, by the line that refuses it.
 fn refusal<H: Shelf + Drop>(
     alloc: Global,
@@ -38,11 +50,19 @@ fn refusal<H: Shelf + Drop>(
     diagnosis(alloc, &refused, source)
 }
 
+// What is wrong with words that were refused. There are none where they aren't text.
+fn wrong(alloc: Global, words: &Option<Vec<String>>) -> Result<String, AllocError> {
+    match words {
+        Some(words) => wrong_words(alloc, words),
+        None => String::from_str(alloc, "a word isn't UTF-8"),
+    }
+}
+
 // What is told after a call that ended with this status.
 fn text<R: Files + AllocGlobal, H: Shelf + Drop, K: Sink + Drop>(
     rt: &R,
     status: u8,
-    words: &[String],
+    words: &Option<Vec<String>>,
     shelf: &NotedShelf<H>,
     sink: &NotedSink<K>,
 ) -> Result<String, AllocError> {
@@ -50,13 +70,10 @@ fn text<R: Files + AllocGlobal, H: Shelf + Drop, K: Sink + Drop>(
     match status {
         1 => String::from_str(alloc, "ivy: memory ran out\n"),
         2 => {
-            let wrong = wrong_words(alloc, words)?;
+            let wrong = wrong(alloc, words)?;
             format!(in alloc; "ivy: {wrong}\n")
         }
-        3 => match str::from_utf8(sink.front()) {
-            Ok(line) => refusal(alloc, line, shelf),
-            Err(_) => Ok(String::new(alloc)),
-        },
+        3 => refusal(alloc, front_of(sink.front()), shelf),
         5 => {
             let name = shelf.name().unwrap_or("the file");
             let reason = why_not_fetched(rt, name);
@@ -74,7 +91,7 @@ fn text<R: Files + AllocGlobal, H: Shelf + Drop, K: Sink + Drop>(
 pub(crate) fn tell<R: Files + AllocGlobal + Eprint, H: Shelf + Drop, K: Sink + Drop>(
     rt: &R,
     status: u8,
-    words: &[String],
+    words: &Option<Vec<String>>,
     shelf: &NotedShelf<H>,
     sink: &NotedSink<K>,
 ) {

@@ -6,13 +6,13 @@ use std::alloc::{AllocError, Global};
 use unicode_width::UnicodeWidthChar;
 
 // The columns of a terminal that are shown of a line at most.
-const MOST: usize = 100;
+const MOST: usize = 120;
 
 // How far to the right a place may stand with the line's front before it.
-const WITH_FRONT: usize = 70;
+const WITH_FRONT: usize = 90;
 
 // The columns that are shown before a place that stands further to the right.
-const LEAD: usize = 40;
+const LEAD: usize = 60;
 
 // What stands for a part of a line that is left out.
 const CUT: &str = "...";

@@ -40,17 +40,22 @@ fn is_without_root(app: &App) -> bool {
     true
 }
 
+// Whether what is missing is a root component.
+fn is_missing_root(refused: &Refused, app: Option<&App>) -> bool {
+    match (refused.kind, app) {
+        (Kind::Rule(1), Some(app)) => is_without_root(app),
+        _ => false,
+    }
+}
+
 // What the first line says behind the title.
 fn push_sentence(
     text: &mut String,
     refused: &Refused,
     app: Option<&App>,
 ) -> Result<(), AllocError> {
-    match (refused.kind, app) {
-        (Kind::Rule(1), Some(app)) if is_without_root(app) => {
-            return text.push_str("there is no `bootstrap`");
-        }
-        _ => {}
+    if is_missing_root(refused, app) {
+        return text.push_str("there is no `bootstrap`");
     }
     let (before, behind) = sentence_for(refused.kind, refused.is_app);
     text.push_str(before)?;
@@ -140,6 +145,9 @@ fn push_nearest(
     let (Kind::Rule(rule), Some(app), Some(spot)) = (refused.kind, source.app, refused.spot) else {
         return Ok(());
     };
+    if is_missing_root(refused, source.app) {
+        return Ok(());
+    }
     let names = names_for(alloc, app, rule, spot)?;
     let Some(index) = nearest(alloc, &names, refused.name)? else {
         return Ok(());

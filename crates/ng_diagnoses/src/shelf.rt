@@ -1,6 +1,6 @@
 //! A shelf that remembers what was fetched last.
 
-ghost use Rattle.std.specs.Prelude.{◌≡◌};
+ghost use Rattle.std.specs.Prelude.{◌≡◌, ℕ, List};
 
 use ng_outside::{FetchError, Shelf};
 use std::alloc::Global;
@@ -17,7 +17,11 @@ pub struct NotedShelf<H: Shelf + Drop> {
 
 impl<H: Shelf + Drop> NotedShelf<H> {
     /// Makes a shelf over another one.
-    pub fn new(inner: H) -> NotedShelf<H> {
+    pub fn new(inner: H) -> NotedShelf<H>
+        ensures told { (name : List ℕ) → ⟦<NotedShelf<H> as Shelf>⟧.told result name ≡ H.told inner name }
+        ensures faults { (name : List ℕ) → ⟦<NotedShelf<H> as Shelf>⟧.faults result name ≡ H.faults inner name }
+        ensures read { ⟦<NotedShelf<H> as Shelf>⟧.read result ≡ H.read inner }
+    {
         NotedShelf {
             inner,
             name: None,

@@ -17,7 +17,10 @@ pub struct NotedSink<K: Sink + Drop> {
 
 impl<K: Sink + Drop> NotedSink<K> {
     /// Makes a sink over another one.
-    pub fn new(alloc: Global, inner: K) -> NotedSink<K> {
+    pub fn new(alloc: Global, inner: K) -> NotedSink<K>
+        ensures taken { ⟦<NotedSink<K> as Sink>⟧.taken result ≡ K.taken inner }
+        ensures faults { ⟦<NotedSink<K> as Sink>⟧.faults result ≡ K.faults inner }
+    {
         NotedSink {
             inner,
             front: Vec::new(alloc),

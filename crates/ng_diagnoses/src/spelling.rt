@@ -1,5 +1,7 @@
 //! The name that is nearest to one that isn't there.
 
+ghost use Rattle.std.specs.Prelude.{◌<◌, length, IfOk, IfSome};
+
 use std::alloc::{AllocError, Global};
 use strsim::osa_distance;
 
@@ -13,7 +15,9 @@ fn reach(length: usize) -> usize {
 
 /// Which of these names is nearest to a word and differs from it, the first of several, if one is near: if few edits, exchanges of neighbours
 /// among them, lead to it.
-pub fn nearest(alloc: Global, names: &[&str], word: &str) -> Result<Option<usize>, AllocError> {
+pub fn nearest(alloc: Global, names: &[&str], word: &str) -> Result<Option<usize>, AllocError>
+    ensures { IfOk result (λ found. IfSome found (λ at. at < length names.now)) }
+{
     if word.len() > LONGEST {
         return Ok(None);
     }
