@@ -218,13 +218,24 @@ fn content_children(cursor: &mut Cursor<'_>, place: Place) -> Result<Member, Hal
     let name = cursor.name()?;
     cursor.sign(Sign::Assign)?;
     let aim = aimed(cursor)?;
-    let descendants = marked(cursor, b"descendants")?;
-    cursor.sign(Sign::Semicolon)?;
-    Ok(Member {
-        place,
-        name,
-        kind: MemberKind::Query(QueryKind::ContentChildren, aim, descendants),
-    })
+    let descendants = match marked(cursor, b"descendants") {
+        Ok(descendants) => descendants,
+        Err(halt) => {
+            drop(aim);
+            return Err(halt);
+        }
+    };
+    match cursor.sign(Sign::Semicolon) {
+        Ok(()) => Ok(Member {
+            place,
+            name,
+            kind: MemberKind::Query(QueryKind::ContentChildren, aim, descendants),
+        }),
+        Err(halt) => {
+            drop(aim);
+            Err(halt)
+        }
+    }
 }
 
 #[tactic(auto, unfolding(ng_phrases::specs::Parse::parse, crate::specs::Members::getter))]

@@ -25,8 +25,18 @@ impl State {
     {
         let gap = is_gap(&self.run);
         match mem::replace(&mut self.waiting, Waiting::Nobody) {
-            Waiting::If(block, before) => { if gap { Some((block, before)) } else { None } }
-            _ => None,
+            Waiting::If(block, before) => {
+                if gap {
+                    Some((block, before))
+                } else {
+                    drop(before);
+                    None
+                }
+            }
+            other => {
+                drop(other);
+                None
+            }
         }
     }
 
@@ -48,7 +58,11 @@ impl State {
                 let opener = Opener::If(block, before, place, test, name);
                 Ok(self.inside(alloc, opener, keep, made)?)
             }
-            None => Err(Halt::Syntax(place)),
+            None => {
+                drop(test);
+                drop(name);
+                Err(Halt::Syntax(place))
+            }
         }
     }
 
@@ -67,7 +81,10 @@ impl State {
                 self.inside(alloc, opener, keep, made)?;
                 Ok(())
             }
-            _ => Err(Halt::Syntax(place)),
+            other => {
+                drop(other);
+                Err(Halt::Syntax(place))
+            }
         }
     }
 

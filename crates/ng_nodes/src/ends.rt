@@ -160,7 +160,11 @@ impl State {
             Opener::Case(block, of, before, start, value) => {
                 self.end_case(block, of, before, branch_of(start, value, None, nodes))
             }
-            _ => Err(Halt::Syntax(place)),
+            other => {
+                drop(other);
+                drop(nodes);
+                Err(Halt::Syntax(place))
+            }
         }
     }
 

@@ -147,7 +147,12 @@ pub fn read(alloc: Global, mut parts: Stack<Part>) -> Result<Items<TNode>, Halt>
 {
     let mut state = State::new(alloc);
     while let Some(part) = parts.pop() {
-        state.step(alloc, part)?;
+        if let Err(halt) = state.step(alloc, part) {
+            drop(state);
+            drop(parts);
+            return Err(halt);
+        }
     }
+    drop(parts);
     state.finish(alloc)
 }
