@@ -17,6 +17,7 @@ pub mod Attributes
 pub mod Page
 pub mod Printing
 pub mod Queries
+pub mod Targets
 pub mod Events
 pub mod Runs
 pub mod Lines

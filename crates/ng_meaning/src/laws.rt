@@ -13,6 +13,7 @@ ghost use Rattle.ng_tree.specs.declared.NodeId.{NodeId};
 ghost use Rattle.ng_tree.specs.declared.NodeId.TheVariants as id;
 ghost use Rattle.ng_tree.specs.declared.PNode.{PNode, out-PNode};
 ghost use Rattle.ng_tree.specs.declared.Site.{Site};
+ghost use Rattle.ng_turns.specs.declared.Event.{Event};
 ghost use Rattle.ng_meaning.specs.Steps.{pure};
 ghost use Rattle.ng_meaning.specs.Levels.{whole};
 ghost use Rattle.ng_meaning.specs.Lists.{Text};
@@ -23,10 +24,11 @@ ghost use Rattle.ng_meaning.specs.Places.{Trail, Outline, Outlines, outlines};
 ghost use Rattle.ng_meaning.specs.Declared.{root};
 ghost use Rattle.ng_meaning.specs.Init.{init_layer};
 ghost use Rattle.ng_meaning.specs.Injection.{upwards, environments_from, route, first_fit, give, search, provided, resolved};
-ghost use Rattle.ng_meaning.specs.Tree.{Tree, State};
+ghost use Rattle.ng_meaning.specs.Tree.{Marks, Tree, State};
 ghost use Rattle.ng_meaning.specs.Bindings.{outlet_layer, outlet_shown};
 ghost use Rattle.ng_meaning.specs.Passes.{lives, living, Passed, pass};
-ghost use Rattle.ng_meaning.specs.Events.{Event, Runner, act_layer, act, elements_layer, elements};
+ghost use Rattle.ng_meaning.specs.Targets.{ways_layer, ways};
+ghost use Rattle.ng_meaning.specs.Events.{Runner, act_layer, act};
 ghost use Rattle.ng_meaning.specs.Runs.{Turn, run_with};
 ghost use Rattle.ng_meaning.specs.Page.{page_nodes, outlet_views, draw, draw_root, page, outlets_met};
 ghost use Rattle.ng_meaning.specs.Queries.{Live, live_within, all_live};
@@ -65,14 +67,14 @@ pub fn searches_go_to_their_end()
 pub fn live_sites_are_kept()
     ensures exactly { (instances : List (Trail × List Read)) (world : World) (at : Site)
         → held (living instances world) at ≡ (if lives instances at then held world at else None) }
-    ensures after_pass { (app : App) (every : Bool) (marks : List Trail) (z : State) (p : Passed) (at : Site)
+    ensures after_pass { (app : App) (every : Bool) (marks : Marks) (z : State) (p : Passed) (at : Site)
         → pass app every marks z ≡ Ok p → is_live p.state.world at ≡ true → lives p.state.tree.instances at ≡ true }
 {}
 
 /// In the tree that a pass leaves no path stands twice, and each view stands behind the one that it is in.
 /// The tree that the pass began with has its rows counted, as every tree has that a pass left.
 pub fn paths_are_in_order()
-    ensures in_passes { (app : App) (every : Bool) (marks : List Trail) (z : State) (p : Passed)
+    ensures in_passes { (app : App) (every : Bool) (marks : Marks) (z : State) (p : Passed)
         → ViewsCounted z.tree.views → pass app every marks z ≡ Ok p → IsInOrder p.state.tree.views × ViewsCounted p.state.tree.views }
     ensures in_runs { (app : App) (every : Bool) (events : List Event) (t : Turn)
         → In t (run_with app every events).turns → IsInOrder t.state.tree.views }
@@ -81,7 +83,7 @@ pub fn paths_are_in_order()
 /// Each view that a tree shows was visited by the pass that left it, and has at most 63 steps. So a page, for which
 /// no longer paths are drawn, misses none.
 pub fn shown_views_are_live()
-    ensures { (app : App) (every : Bool) (marks : List Trail) (z : State) (r : Passed) → pass app every marks z ≡ Ok r
+    ensures { (app : App) (every : Bool) (marks : Marks) (z : State) (r : Passed) → pass app every marks z ≡ Ok r
         → (p : Trail) (o : Outline) (outer : Outlines) → IsShown app r.state.tree p → outlines app p ≡ o ∷ outer
         → In p (paths r.state.tree.views) × (length p ≤ 63) }
 {}
@@ -89,14 +91,14 @@ pub fn shown_views_are_live()
 /// Each view that is live in the tree of a pass is one that the tree shows: it has no others. The tree that the pass
 /// began with has its rows counted, as every tree has that a pass left.
 pub fn live_views_are_shown()
-    ensures { (app : App) (every : Bool) (marks : List Trail) (z : State) (r : Passed) → ViewsCounted z.tree.views → pass app every marks z ≡ Ok r
+    ensures { (app : App) (every : Bool) (marks : Marks) (z : State) (r : Passed) → ViewsCounted z.tree.views → pass app every marks z ≡ Ok r
         → (p : Trail) → In p (paths r.state.tree.views) → IsShown app r.state.tree p }
 {}
 
 /// The list of live nodes, in which queries search and which orders the report, has exactly the elements and hosts
 /// that stand in the views that the tree shows, each with the elements and hosts of its template that it stands in.
 pub fn live_elements_are_listed()
-    ensures in_passes { (app : App) (every : Bool) (marks : List Trail) (z : State) (r : Passed) → ViewsCounted z.tree.views → pass app every marks z ≡ Ok r
+    ensures in_passes { (app : App) (every : Bool) (marks : Marks) (z : State) (r : Passed) → ViewsCounted z.tree.views → pass app every marks z ≡ Ok r
         → (q : Live) → In q (all_live app r.state.tree) ↔ IsLive app r.state.tree q }
     ensures in_runs { (app : App) (every : Bool) (events : List Event) (t : Turn) → In t (run_with app every events).turns
         → (q : Live) → In q (all_live app t.state.tree) ↔ IsLive app t.state.tree q }
@@ -106,11 +108,11 @@ pub fn live_elements_are_listed()
 
 /// After a pass a page, the outlets that are met in it and the list of live nodes are the same with any more levels than 64.
 pub fn levels_are_enough()
-    ensures drawn { (app : App) (every : Bool) (marks : List Trail) (z : State) (r : Passed) → pass app every marks z ≡ Ok r
+    ensures drawn { (app : App) (every : Bool) (marks : Marks) (z : State) (r : Passed) → pass app every marks z ≡ Ok r
         → (more : ℕ) → draw app r.state.tree page_nodes (64 + more) (outlines app []) (λ k. []) ≡ draw_root app r.state.tree page_nodes }
-    ensures met { (app : App) (every : Bool) (marks : List Trail) (z : State) (r : Passed) → pass app every marks z ≡ Ok r
+    ensures met { (app : App) (every : Bool) (marks : Marks) (z : State) (r : Passed) → pass app every marks z ≡ Ok r
         → (more : ℕ) → draw app r.state.tree outlet_views (64 + more) (outlines app []) (λ k. []) ≡ outlets_met app r.state.tree }
-    ensures listed { (app : App) (every : Bool) (marks : List Trail) (z : State) (r : Passed) → ViewsCounted z.tree.views → pass app every marks z ≡ Ok r
+    ensures listed { (app : App) (every : Bool) (marks : Marks) (z : State) (r : Passed) → ViewsCounted z.tree.views → pass app every marks z ≡ Ok r
         → (more : ℕ) → live_within app r.state.tree (64 + more) (outlines app []) [] ≡ all_live app r.state.tree }
 {}
 
@@ -124,7 +126,7 @@ pub fn recursions_go_to_their_end()
         → whole out-Stmt size-Stmt (pure tt) (init_layer app at) s ≡ init_layer app at (whole out-Stmt size-Stmt (pure tt) (init_layer app at)) (out-Stmt s) }
     ensures templates { (app : App) (t : TNode) → form_from app t ≡ form_layer app (form_from app) (out-TNode t) }
     ensures outlets { (os : Outlines) (o : OutletForm) → outlet_shown os o ≡ outlet_layer os (outlet_shown os) (out-OutletForm o) }
-    ensures targets { (p : PNode) → elements p ≡ elements_layer elements (out-PNode p) }
+    ensures ways { (p : PNode) → ways p ≡ ways_layer ways (out-PNode p) }
     ensures printing { (p : PNode) → html p ≡ html_layer html (out-PNode p) }
 {}
 

@@ -6,10 +6,12 @@
 
 pub mod blocks;
 pub mod bound;
+pub mod bubbling;
 pub mod checking;
 pub mod content;
 pub mod counter;
 pub mod faults;
+pub mod holding;
 pub mod outlets;
 pub mod providers;
 pub mod queries;
