@@ -50,5 +50,6 @@ unfolding
     Rattle.ng_meaning.specs.Targets.event_way Rattle.ng_meaning.specs.Targets.target Rattle.ng_meaning.specs.Targets.way_listeners
     Rattle.ng_meaning.specs.Events.handle
     Rattle.ng_meaning.specs.Runs.run_with
-    Rattle.ng_meaning.specs.Lines.lines
+    Rattle.ng_meaning.specs.Lines.lines Rattle.ng_meaning.specs.Generated.generated_lines
+    Rattle.ng_meaning.specs.Operations.live_node
 everything = tt

@@ -21,5 +21,9 @@ pub mod Targets
 pub mod Events
 pub mod Runs
 pub mod Lines
+pub mod Operations
+pub mod Written
+pub mod Generated
+pub mod Ticks
 pub mod Compute
 pub mod Laws

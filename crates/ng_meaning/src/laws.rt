@@ -1,6 +1,7 @@
 //! Laws of the definitions.
 
-ghost use Rattle.std.specs.Prelude.{◌≡◌, ◌⊎◌, ◌↔◌, ◌∷◌, ◌+◌, ◌≤◌, ℕ, length, List, [], Bool, true, None, Option, Ok, Err, if◌then◌else◌};
+ghost use Rattle.std.specs.Prelude.{◌≡◌, ◌⊎◌, ◌↔◌, ◌∷◌, ◌+◌, ◌≤◌, ℕ, length, List, [], Bool, true, None, Some, Option, Ok, Err, if◌then◌else◌};
+ghost use Rattle.ng_values.specs.declared.value.Value.{Value};
 ghost use Rattle.ng_values.specs.declared.fault.Fault.{Fault};
 ghost use Rattle.ng_ast.specs.declared.App.{App};
 ghost use Rattle.ng_ast.specs.declared.Expr.{Expr, out-Expr};
@@ -14,11 +15,12 @@ ghost use Rattle.ng_tree.specs.declared.NodeId.TheVariants as id;
 ghost use Rattle.ng_tree.specs.declared.PNode.{PNode, out-PNode};
 ghost use Rattle.ng_tree.specs.declared.Site.{Site};
 ghost use Rattle.ng_turns.specs.declared.Event.{Event};
+ghost use Rattle.ng_turns.specs.declared.Event.TheVariants as event;
 ghost use Rattle.ng_meaning.specs.Steps.{pure};
 ghost use Rattle.ng_meaning.specs.Levels.{whole};
 ghost use Rattle.ng_meaning.specs.Lists.{Text};
 ghost use Rattle.ng_meaning.specs.World.{World, Read, held, is_live};
-ghost use Rattle.ng_meaning.specs.Expressions.{Bodies, mean_chain, mean_level};
+ghost use Rattle.ng_meaning.specs.Expressions.{Bodies, mean_chain, mean_level, most_calls};
 ghost use Rattle.ng_meaning.specs.Template.{Node, nodes_of, form_from, form_layer};
 ghost use Rattle.ng_meaning.specs.Places.{Trail, Outline, Outlines, outlines};
 ghost use Rattle.ng_meaning.specs.Declared.{root};
@@ -27,9 +29,9 @@ ghost use Rattle.ng_meaning.specs.Injection.{upwards, environments_from, route, 
 ghost use Rattle.ng_meaning.specs.Tree.{Marks, Tree, State};
 ghost use Rattle.ng_meaning.specs.Bindings.{outlet_layer, outlet_shown};
 ghost use Rattle.ng_meaning.specs.Passes.{lives, living, Passed, pass};
-ghost use Rattle.ng_meaning.specs.Targets.{ways_layer, ways};
-ghost use Rattle.ng_meaning.specs.Events.{Runner, act_layer, act};
-ghost use Rattle.ng_meaning.specs.Runs.{Turn, run_with};
+ghost use Rattle.ng_meaning.specs.Targets.{ways_layer, ways, Listener, event_way, way_listeners};
+ghost use Rattle.ng_meaning.specs.Events.{Runner, act_layer, act, run_listener, runner, handled, idle, handle};
+ghost use Rattle.ng_meaning.specs.Runs.{Turn, settled, run_from, run_with};
 ghost use Rattle.ng_meaning.specs.Page.{page_nodes, outlet_views, draw, draw_root, page, outlets_met};
 ghost use Rattle.ng_meaning.specs.Queries.{Live, live_within, all_live};
 ghost use Rattle.ng_meaning.specs.Laws.Apart.{In, Apart};
@@ -39,6 +41,7 @@ ghost use Rattle.ng_meaning.specs.Laws.OnPage.{IsOnPage};
 ghost use Rattle.ng_meaning.specs.Laws.Units.{IsShown, ShowsSlotsOnce};
 ghost use Rattle.ng_meaning.specs.Laws.Live.{IsElement, IsLive};
 ghost use Rattle.ng_meaning.specs.Laws.Slots.{TemplatesHaveSlotsOnce};
+ghost use Rattle.ng_meaning.specs.Laws.Holding.{AllAct, each_flushed, ShowSame};
 ghost use Rattle.ng_meaning.specs.Printing.{escaped, escaped_value, html_layer, html};
 
 /// Two different texts, or two different values of attributes, are never printed alike.
@@ -147,4 +150,18 @@ pub fn page_has_each_shown_node_once()
     ensures once { (app : App) (tree : Tree) → ViewsCounted tree.views → ShowsSlotsOnce app tree → Apart (node_ids (page app tree)) }
     ensures once_in_runs { (app : App) (every : Bool) (events : List Event) (t : Turn)
         → In t (run_with app every events).turns → ShowsSlotsOnce app t.state.tree → Apart (node_ids t.page) }
+{}
+
+/// An event on whose way one listener hears it does what that listener does, as if the event didn't bubble.
+pub fn one_listener_is_alone()
+    ensures { (app : App) (z : State) (name tag : Text) (n : ℕ) (value : Value) (way : List NodeId) (l : Listener)
+        → event_way (page app z.tree) tag n ≡ Some way → way_listeners app name way ≡ l ∷ []
+        → handle app z (event.On name tag n value) ≡ handled z.world (run_listener app z.tree most_calls (runner app z.tree most_calls) value l (idle z.world)) }
+{}
+
+/// A run in which each event is held, and flushed right after it, shows at each `flush` what the run without holding shows: the
+/// same instances are checked, and the same state and page are left, or the same fault ends it.
+pub fn holding_each_event_changes_nothing()
+    ensures { (app : App) (every : Bool) (es : List Event) (z : State) → AllAct es
+        → ShowSame (run_from app every (each_flushed es) (settled z)) (run_from app every es (settled z)) }
 {}

@@ -72,6 +72,10 @@ click tag n = event.On (codes "click") tag n val.Null
 abbrev pub fire : Text → Text → ℕ → Event
 fire name tag n = event.On name tag n val.Null
 
+-- the same with a value
+abbrev pub fire_with : Text → Text → ℕ → Value → Event
+fire_with name tag n w = event.On name tag n w
+
 -- a call of a method on what a token gives
 abbrev pub call_with : Text → Text → List Value → Event
 call_with token name args = event.Call token name args

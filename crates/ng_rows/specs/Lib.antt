@@ -10,3 +10,4 @@ pub mod Faults
 pub mod Outlets
 pub mod Bubbling
 pub mod Holding
+pub mod Nodes

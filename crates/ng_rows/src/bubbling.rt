@@ -1,9 +1,10 @@
 //! Events that bubble.
 
 ghost use Rattle.std.specs.Prelude.{◌≡◌, [], ◌∷◌, true, false, pos, codes};
+ghost use Rattle.ng_values.specs.declared.value.Value.TheVariants as val;
 ghost use Rattle.ng_meaning.specs.Lines.{lines};
-ghost use Rattle.ng_rows.specs.Build.{click, fire, pages, traces};
-ghost use Rattle.ng_rows.specs.Bubbling.{two_listeners, faulty_inside, focus_outside, three_listeners, faulty_middle, quiet_target, host_on_the_way, shown_content, marked_on_the_way, hidden_on_the_way};
+ghost use Rattle.ng_rows.specs.Build.{click, fire, fire_with, pages, traces};
+ghost use Rattle.ng_rows.specs.Bubbling.{two_listeners, faulty_inside, focus_outside, three_listeners, faulty_middle, quiet_target, host_on_the_way, shown_content, marked_on_the_way, hidden_on_the_way, kin_of_focus, shared_value, faulty_output, emitting_content, outlet_on_the_way, rows_on_the_way, nested_tags, deep_listeners};
 
 /// A click runs the listener of its target, and then those of its ancestors on the page.
 pub fn click_runs_both()
@@ -252,5 +253,213 @@ pub fn ways_are_of_the_last_page()
         ∷ codes "page 2"
         ∷ codes "<r-r><p>1</p></r-r>"
         ∷ codes "end 2"
+        ∷ [] }
+{}
+
+/// So do `mouseenter`, `mouseleave`, `blur` and `scroll`. Other events bubble.
+pub fn kin_of_focus_stay()
+    ensures every { lines kin_of_focus pages true (fire (codes "mouseenter") (codes "b") 1 ∷ fire (codes "mouseleave") (codes "b") 1 ∷ fire (codes "blur") (codes "b") 1 ∷ fire (codes "scroll") (codes "b") 1 ∷ fire (codes "input") (codes "b") 1 ∷ [])
+        ≡ codes "page 0"
+        ∷ codes "<r-r><div><b>00</b></div></r-r>"
+        ∷ codes "event 1 no-listener"
+        ∷ codes "page 1"
+        ∷ codes "<r-r><div><b>00</b></div></r-r>"
+        ∷ codes "event 2 no-listener"
+        ∷ codes "page 2"
+        ∷ codes "<r-r><div><b>00</b></div></r-r>"
+        ∷ codes "event 3 no-listener"
+        ∷ codes "page 3"
+        ∷ codes "<r-r><div><b>00</b></div></r-r>"
+        ∷ codes "event 4 no-listener"
+        ∷ codes "page 4"
+        ∷ codes "<r-r><div><b>00</b></div></r-r>"
+        ∷ codes "event 5 ran"
+        ∷ codes "page 5"
+        ∷ codes "<r-r><div><b>05</b></div></r-r>"
+        ∷ codes "end 5"
+        ∷ [] }
+    ensures due { lines kin_of_focus pages false (fire (codes "mouseenter") (codes "b") 1 ∷ fire (codes "mouseleave") (codes "b") 1 ∷ fire (codes "blur") (codes "b") 1 ∷ fire (codes "scroll") (codes "b") 1 ∷ fire (codes "input") (codes "b") 1 ∷ [])
+        ≡ codes "page 0"
+        ∷ codes "<r-r><div><b>00</b></div></r-r>"
+        ∷ codes "event 1 no-listener"
+        ∷ codes "page 1"
+        ∷ codes "<r-r><div><b>00</b></div></r-r>"
+        ∷ codes "event 2 no-listener"
+        ∷ codes "page 2"
+        ∷ codes "<r-r><div><b>00</b></div></r-r>"
+        ∷ codes "event 3 no-listener"
+        ∷ codes "page 3"
+        ∷ codes "<r-r><div><b>00</b></div></r-r>"
+        ∷ codes "event 4 no-listener"
+        ∷ codes "page 4"
+        ∷ codes "<r-r><div><b>00</b></div></r-r>"
+        ∷ codes "event 5 ran"
+        ∷ codes "page 5"
+        ∷ codes "<r-r><div><b>05</b></div></r-r>"
+        ∷ codes "end 5"
+        ∷ [] }
+{}
+
+/// Each listener of the way has the value of the event as `$event`.
+pub fn listeners_share_the_value()
+    ensures every { lines shared_value pages true (fire_with (codes "input") (codes "b") 1 (val.Int (pos 5)) ∷ [])
+        ≡ codes "page 0"
+        ∷ codes "<r-r><div><b>00</b></div></r-r>"
+        ∷ codes "event 1 ran"
+        ∷ codes "page 1"
+        ∷ codes "<r-r><div><b>65</b></div></r-r>"
+        ∷ codes "end 1"
+        ∷ [] }
+    ensures due { lines shared_value pages false (fire_with (codes "input") (codes "b") 1 (val.Int (pos 5)) ∷ [])
+        ≡ codes "page 0"
+        ∷ codes "<r-r><div><b>00</b></div></r-r>"
+        ∷ codes "event 1 ran"
+        ∷ codes "page 1"
+        ∷ codes "<r-r><div><b>65</b></div></r-r>"
+        ∷ codes "end 1"
+        ∷ [] }
+{}
+
+/// A fault in the listener of an output ends the listener that emitted, and the way.
+pub fn faults_of_outputs_end_the_way()
+    ensures every { lines faulty_output pages true (click (codes "b") 1 ∷ [])
+        ≡ codes "page 0"
+        ∷ codes "<r-r><p><k-k><b>0</b></k-k>0</p></r-r>"
+        ∷ codes "event 1 fault DivideByZero"
+        ∷ codes "page 1"
+        ∷ codes "<r-r><p><k-k><b>1</b></k-k>0</p></r-r>"
+        ∷ codes "end 1"
+        ∷ [] }
+    ensures due { lines faulty_output pages false (click (codes "b") 1 ∷ [])
+        ≡ codes "page 0"
+        ∷ codes "<r-r><p><k-k><b>0</b></k-k>0</p></r-r>"
+        ∷ codes "event 1 fault DivideByZero"
+        ∷ codes "page 1"
+        ∷ codes "<r-r><p><k-k><b>1</b></k-k>0</p></r-r>"
+        ∷ codes "end 1"
+        ∷ [] }
+{}
+
+/// A listener of the way that emits runs the listener of its host at once, before the way goes on.
+pub fn outputs_run_at_once()
+    ensures every { lines emitting_content pages true (click (codes "b") 1 ∷ [])
+        ≡ codes "page 0"
+        ∷ codes "<r-r><p><k-k><u><b>0</b>0</u></k-k></p></r-r>"
+        ∷ codes "event 1 ran"
+        ∷ codes "page 1"
+        ∷ codes "<r-r><p><k-k><u><b>15</b>1</u></k-k></p></r-r>"
+        ∷ codes "end 1"
+        ∷ [] }
+    ensures due { lines emitting_content pages false (click (codes "b") 1 ∷ [])
+        ≡ codes "page 0"
+        ∷ codes "<r-r><p><k-k><u><b>0</b>0</u></k-k></p></r-r>"
+        ∷ codes "event 1 ran"
+        ∷ codes "page 1"
+        ∷ codes "<r-r><p><k-k><u><b>15</b>1</u></k-k></p></r-r>"
+        ∷ codes "end 1"
+        ∷ [] }
+{}
+
+/// The way of what an outlet shows goes by the outlet, and not by the place of its template.
+pub fn outlets_bubble_by_the_page()
+    ensures every { lines outlet_on_the_way pages true (click (codes "b") 1 ∷ click (codes "i") 1 ∷ [])
+        ≡ codes "page 0"
+        ∷ codes "<r-r><i></i><p><b>0</b></p></r-r>"
+        ∷ codes "event 1 ran"
+        ∷ codes "page 1"
+        ∷ codes "<r-r><i></i><p><b>11</b></p></r-r>"
+        ∷ codes "event 2 ran"
+        ∷ codes "page 2"
+        ∷ codes "<r-r><i></i><p><b>111</b></p></r-r>"
+        ∷ codes "end 2"
+        ∷ [] }
+    ensures due { lines outlet_on_the_way pages false (click (codes "b") 1 ∷ click (codes "i") 1 ∷ [])
+        ≡ codes "page 0"
+        ∷ codes "<r-r><i></i><p><b>0</b></p></r-r>"
+        ∷ codes "event 1 ran"
+        ∷ codes "page 1"
+        ∷ codes "<r-r><i></i><p><b>11</b></p></r-r>"
+        ∷ codes "event 2 ran"
+        ∷ codes "page 2"
+        ∷ codes "<r-r><i></i><p><b>111</b></p></r-r>"
+        ∷ codes "end 2"
+        ∷ [] }
+{}
+
+/// A listener in a row sees the row, and one further out goes on from what it wrote.
+pub fn rows_bubble()
+    ensures every { lines rows_on_the_way pages true (click (codes "b") 3 ∷ click (codes "b") 2 ∷ [])
+        ≡ codes "page 0"
+        ∷ codes "<r-r><p><b>7</b><b>8</b><b>9</b></p>0</r-r>"
+        ∷ codes "event 1 ran"
+        ∷ codes "page 1"
+        ∷ codes "<r-r><p><b>7</b><b>8</b><b>9</b></p>20</r-r>"
+        ∷ codes "event 2 ran"
+        ∷ codes "page 2"
+        ∷ codes "<r-r><p><b>7</b><b>8</b><b>9</b></p>210</r-r>"
+        ∷ codes "end 2"
+        ∷ [] }
+    ensures due { lines rows_on_the_way pages false (click (codes "b") 3 ∷ click (codes "b") 2 ∷ [])
+        ≡ codes "page 0"
+        ∷ codes "<r-r><p><b>7</b><b>8</b><b>9</b></p>0</r-r>"
+        ∷ codes "event 1 ran"
+        ∷ codes "page 1"
+        ∷ codes "<r-r><p><b>7</b><b>8</b><b>9</b></p>20</r-r>"
+        ∷ codes "event 2 ran"
+        ∷ codes "page 2"
+        ∷ codes "<r-r><p><b>7</b><b>8</b><b>9</b></p>210</r-r>"
+        ∷ codes "end 2"
+        ∷ [] }
+{}
+
+/// Elements of one tag inside each other are counted in document order, and the way of the inner one goes through the outer one.
+pub fn elements_in_elements_count()
+    ensures every { lines nested_tags pages true (click (codes "b") 1 ∷ click (codes "b") 2 ∷ click (codes "b") 3 ∷ [])
+        ≡ codes "page 0"
+        ∷ codes "<r-r><b><b>x</b></b>0</r-r>"
+        ∷ codes "event 1 ran"
+        ∷ codes "page 1"
+        ∷ codes "<r-r><b><b>x</b></b>1</r-r>"
+        ∷ codes "event 2 ran"
+        ∷ codes "page 2"
+        ∷ codes "<r-r><b><b>x</b></b>13</r-r>"
+        ∷ codes "event 3 no-target"
+        ∷ codes "page 3"
+        ∷ codes "<r-r><b><b>x</b></b>13</r-r>"
+        ∷ codes "end 3"
+        ∷ [] }
+    ensures due { lines nested_tags pages false (click (codes "b") 1 ∷ click (codes "b") 2 ∷ click (codes "b") 3 ∷ [])
+        ≡ codes "page 0"
+        ∷ codes "<r-r><b><b>x</b></b>0</r-r>"
+        ∷ codes "event 1 ran"
+        ∷ codes "page 1"
+        ∷ codes "<r-r><b><b>x</b></b>1</r-r>"
+        ∷ codes "event 2 ran"
+        ∷ codes "page 2"
+        ∷ codes "<r-r><b><b>x</b></b>13</r-r>"
+        ∷ codes "event 3 no-target"
+        ∷ codes "page 3"
+        ∷ codes "<r-r><b><b>x</b></b>13</r-r>"
+        ∷ codes "end 3"
+        ∷ [] }
+{}
+
+/// Each listener of a way is the first of its open calls: two that go down to the 64th run one after the other.
+pub fn calls_are_opened_anew()
+    ensures every { lines deep_listeners pages true (click (codes "b") 1 ∷ [])
+        ≡ codes "page 0"
+        ∷ codes "<r-r><p><b>0</b></p></r-r>"
+        ∷ codes "event 1 ran"
+        ∷ codes "page 1"
+        ∷ codes "<r-r><p><b>11</b></p></r-r>"
+        ∷ codes "end 1"
+        ∷ [] }
+    ensures due { lines deep_listeners pages false (click (codes "b") 1 ∷ [])
+        ≡ codes "page 0"
+        ∷ codes "<r-r><p><b>0</b></p></r-r>"
+        ∷ codes "event 1 ran"
+        ∷ codes "page 1"
+        ∷ codes "<r-r><p><b>11</b></p></r-r>"
+        ∷ codes "end 1"
         ∷ [] }
 {}

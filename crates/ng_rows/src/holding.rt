@@ -3,8 +3,8 @@
 ghost use Rattle.std.specs.Prelude.{◌≡◌, [], ◌∷◌, true, false, pos, codes};
 ghost use Rattle.ng_values.specs.declared.value.Value.TheVariants as val;
 ghost use Rattle.ng_meaning.specs.Lines.{lines};
-ghost use Rattle.ng_rows.specs.Build.{call_with, click, flush, hold, full, pages, traces};
-ghost use Rattle.ng_rows.specs.Holding.{held_counter, held_signal, held_marks, held_page, held_fault};
+ghost use Rattle.ng_rows.specs.Build.{call, call_with, click, flush, hold, full, pages, traces};
+ghost use Rattle.ng_rows.specs.Holding.{held_counter, held_signal, held_marks, held_page, held_fault, held_birth, held_input, held_view, held_bubbling};
 
 /// Between `hold` and `flush` events act, and no pass follows. A `flush` that has nothing to do shows the page again.
 pub fn passes_are_held_back()
@@ -255,5 +255,170 @@ pub fn flush_may_fault()
         ∷ codes "<r-r><b>6</b></r-r>"
         ∷ codes "event 3 flushed"
         ∷ codes "fault DivideByZero at 4:36 in R ."
+        ∷ [] }
+{}
+
+/// A service that a held call needs is born at that call, once: the pass finds it there.
+pub fn services_are_born_at_once()
+    ensures every { lines held_birth pages true (hold ∷ call (codes "S") (codes "up") ∷ click (codes "b") 1 ∷ call (codes "S") (codes "up") ∷ flush ∷ [])
+        ≡ codes "page 0"
+        ∷ codes "<r-r><b>x</b></r-r>"
+        ∷ codes "event 1 held"
+        ∷ codes "page 1"
+        ∷ codes "<r-r><b>x</b></r-r>"
+        ∷ codes "event 2 ran"
+        ∷ codes "page 2"
+        ∷ codes "<r-r><b>x</b></r-r>"
+        ∷ codes "event 3 ran"
+        ∷ codes "page 3"
+        ∷ codes "<r-r><b>x</b></r-r>"
+        ∷ codes "event 4 ran"
+        ∷ codes "page 4"
+        ∷ codes "<r-r><b>x</b></r-r>"
+        ∷ codes "event 5 flushed"
+        ∷ codes "page 5"
+        ∷ codes "<r-r><b>x</b><k-k>7</k-k></r-r>"
+        ∷ codes "end 5"
+        ∷ [] }
+    ensures due { lines held_birth pages false (hold ∷ call (codes "S") (codes "up") ∷ click (codes "b") 1 ∷ call (codes "S") (codes "up") ∷ flush ∷ [])
+        ≡ codes "page 0"
+        ∷ codes "<r-r><b>x</b></r-r>"
+        ∷ codes "event 1 held"
+        ∷ codes "page 1"
+        ∷ codes "<r-r><b>x</b></r-r>"
+        ∷ codes "event 2 ran"
+        ∷ codes "page 2"
+        ∷ codes "<r-r><b>x</b></r-r>"
+        ∷ codes "event 3 ran"
+        ∷ codes "page 3"
+        ∷ codes "<r-r><b>x</b></r-r>"
+        ∷ codes "event 4 ran"
+        ∷ codes "page 4"
+        ∷ codes "<r-r><b>x</b></r-r>"
+        ∷ codes "event 5 flushed"
+        ∷ codes "page 5"
+        ∷ codes "<r-r><b>x</b><k-k>7</k-k></r-r>"
+        ∷ codes "end 5"
+        ∷ [] }
+{}
+
+/// An input is compared at the pass: a binding whose value is set and set back gives the child nothing new.
+pub fn inputs_are_compared_at_the_pass()
+    ensures set_back { lines held_input traces false (hold ∷ click (codes "b") 1 ∷ click (codes "i") 1 ∷ flush ∷ [])
+        ≡ codes "check . R"
+        ∷ codes "check ./4 K"
+        ∷ codes "page 0"
+        ∷ codes "<r-r><b>x</b><i>y</i><k-k>1</k-k></r-r>"
+        ∷ codes "event 1 held"
+        ∷ codes "page 1"
+        ∷ codes "<r-r><b>x</b><i>y</i><k-k>1</k-k></r-r>"
+        ∷ codes "event 2 ran"
+        ∷ codes "page 2"
+        ∷ codes "<r-r><b>x</b><i>y</i><k-k>1</k-k></r-r>"
+        ∷ codes "event 3 ran"
+        ∷ codes "page 3"
+        ∷ codes "<r-r><b>x</b><i>y</i><k-k>1</k-k></r-r>"
+        ∷ codes "event 4 flushed"
+        ∷ codes "check . R"
+        ∷ codes "page 4"
+        ∷ codes "<r-r><b>x</b><i>y</i><k-k>1</k-k></r-r>"
+        ∷ codes "end 4"
+        ∷ [] }
+    ensures set { lines held_input traces false (hold ∷ click (codes "i") 1 ∷ click (codes "b") 1 ∷ flush ∷ [])
+        ≡ codes "check . R"
+        ∷ codes "check ./4 K"
+        ∷ codes "page 0"
+        ∷ codes "<r-r><b>x</b><i>y</i><k-k>1</k-k></r-r>"
+        ∷ codes "event 1 held"
+        ∷ codes "page 1"
+        ∷ codes "<r-r><b>x</b><i>y</i><k-k>1</k-k></r-r>"
+        ∷ codes "event 2 ran"
+        ∷ codes "page 2"
+        ∷ codes "<r-r><b>x</b><i>y</i><k-k>1</k-k></r-r>"
+        ∷ codes "event 3 ran"
+        ∷ codes "page 3"
+        ∷ codes "<r-r><b>x</b><i>y</i><k-k>1</k-k></r-r>"
+        ∷ codes "event 4 flushed"
+        ∷ codes "check . R"
+        ∷ codes "check ./4 K"
+        ∷ codes "page 4"
+        ∷ codes "<r-r><b>x</b><i>y</i><k-k>2</k-k></r-r>"
+        ∷ codes "end 4"
+        ∷ [] }
+{}
+
+/// A view that would end and come back between two passes never ended, and keeps what it holds.
+pub fn views_that_come_back_stay()
+    ensures every { lines held_view pages true (click (codes "b") 1 ∷ hold ∷ click (codes "u") 1 ∷ click (codes "i") 1 ∷ flush ∷ [])
+        ≡ codes "page 0"
+        ∷ codes "<r-r><u>-</u><i>+</i><c-c><b>0</b></c-c></r-r>"
+        ∷ codes "event 1 ran"
+        ∷ codes "page 1"
+        ∷ codes "<r-r><u>-</u><i>+</i><c-c><b>1</b></c-c></r-r>"
+        ∷ codes "event 2 held"
+        ∷ codes "page 2"
+        ∷ codes "<r-r><u>-</u><i>+</i><c-c><b>1</b></c-c></r-r>"
+        ∷ codes "event 3 ran"
+        ∷ codes "page 3"
+        ∷ codes "<r-r><u>-</u><i>+</i><c-c><b>1</b></c-c></r-r>"
+        ∷ codes "event 4 ran"
+        ∷ codes "page 4"
+        ∷ codes "<r-r><u>-</u><i>+</i><c-c><b>1</b></c-c></r-r>"
+        ∷ codes "event 5 flushed"
+        ∷ codes "page 5"
+        ∷ codes "<r-r><u>-</u><i>+</i><c-c><b>1</b></c-c></r-r>"
+        ∷ codes "end 5"
+        ∷ [] }
+    ensures released { lines held_view pages true (click (codes "b") 1 ∷ click (codes "u") 1 ∷ click (codes "i") 1 ∷ [])
+        ≡ codes "page 0"
+        ∷ codes "<r-r><u>-</u><i>+</i><c-c><b>0</b></c-c></r-r>"
+        ∷ codes "event 1 ran"
+        ∷ codes "page 1"
+        ∷ codes "<r-r><u>-</u><i>+</i><c-c><b>1</b></c-c></r-r>"
+        ∷ codes "event 2 ran"
+        ∷ codes "page 2"
+        ∷ codes "<r-r><u>-</u><i>+</i></r-r>"
+        ∷ codes "event 3 ran"
+        ∷ codes "page 3"
+        ∷ codes "<r-r><u>-</u><i>+</i><c-c><b>0</b></c-c></r-r>"
+        ∷ codes "end 3"
+        ∷ [] }
+{}
+
+/// Held events bubble as others do.
+pub fn held_events_bubble()
+    ensures every { lines held_bubbling pages true (hold ∷ click (codes "b") 1 ∷ click (codes "div") 1 ∷ flush ∷ [])
+        ≡ codes "page 0"
+        ∷ codes "<r-r><div><b>00</b></div></r-r>"
+        ∷ codes "event 1 held"
+        ∷ codes "page 1"
+        ∷ codes "<r-r><div><b>00</b></div></r-r>"
+        ∷ codes "event 2 ran"
+        ∷ codes "page 2"
+        ∷ codes "<r-r><div><b>00</b></div></r-r>"
+        ∷ codes "event 3 ran"
+        ∷ codes "page 3"
+        ∷ codes "<r-r><div><b>00</b></div></r-r>"
+        ∷ codes "event 4 flushed"
+        ∷ codes "page 4"
+        ∷ codes "<r-r><div><b>12</b></div></r-r>"
+        ∷ codes "end 4"
+        ∷ [] }
+    ensures due { lines held_bubbling pages false (hold ∷ click (codes "b") 1 ∷ click (codes "div") 1 ∷ flush ∷ [])
+        ≡ codes "page 0"
+        ∷ codes "<r-r><div><b>00</b></div></r-r>"
+        ∷ codes "event 1 held"
+        ∷ codes "page 1"
+        ∷ codes "<r-r><div><b>00</b></div></r-r>"
+        ∷ codes "event 2 ran"
+        ∷ codes "page 2"
+        ∷ codes "<r-r><div><b>00</b></div></r-r>"
+        ∷ codes "event 3 ran"
+        ∷ codes "page 3"
+        ∷ codes "<r-r><div><b>00</b></div></r-r>"
+        ∷ codes "event 4 flushed"
+        ∷ codes "page 4"
+        ∷ codes "<r-r><div><b>12</b></div></r-r>"
+        ∷ codes "end 4"
         ∷ [] }
 {}

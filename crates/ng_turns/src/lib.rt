@@ -1,4 +1,5 @@
-//! What a run is given and what comes of it: events, what came of each, and where a pass met a fault.
+//! What a run is given and what comes of it: events, what came of each, what a pass does to the nodes of
+//! the page, and where it met a fault.
 #![tactic(auto)]
 
 use ng_ast::Place;
@@ -58,4 +59,25 @@ pub enum PassFault {
     TooManyNodes(Spot),
     /// A path had more than 63 steps.
     TooDeep(Spot),
+}
+
+/// What a pass does to the live nodes of a page. Nodes are named by their serial numbers.
+#[derive(Drop)]
+pub enum Op {
+    /// Makes an element of this tag, of which no attribute is set.
+    MakeElement(u64, NgText),
+    /// Makes an empty text.
+    MakeText(u64),
+    /// Sets an attribute, by its name.
+    SetAttribute(u64, NgText, NgText),
+    /// Takes an attribute away.
+    ClearAttribute(u64, NgText),
+    /// Sets a text.
+    SetText(u64, NgText),
+    /// Puts a node into an element, before one of its children or behind the last.
+    Place(u64, u64, Option<u64>),
+    /// Takes a node off its element.
+    Unplace(u64),
+    /// Takes a node off its element, and ends it.
+    End(u64),
 }
