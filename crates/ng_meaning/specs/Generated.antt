@@ -1,8 +1,7 @@
 -- The generated application, with a list of N rows, and the lines that tell of its run.
-use Rattle.std.specs.Prelude.{ℕ, zero, suc, ◌+◌, pos, true, false, List, [], ◌∷◌, ◌++◌, map, length, Option, Some, None, codes}
+use Rattle.std.specs.Prelude.{ℕ, zero, suc, pos, true, false, List, [], ◌∷◌, ◌++◌, map, length, Option, Some, None, codes}
 use Rattle.std.specs.Fmt.{decimal}
 use Rattle.std.specs.List.{sum}
-use Rattle.ng_values.specs.declared.plain.Plain.{Plain}
 use Rattle.ng_values.specs.declared.plain.Plain.TheVariants as plain
 use Rattle.ng_values.specs.declared.value.Value.TheVariants as val
 use Rattle.ng_ast.specs.declared.App.{App}

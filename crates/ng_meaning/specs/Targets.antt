@@ -12,7 +12,7 @@ use Rattle.ng_tree.specs.declared.PNode.TheOpen.{PNode-F}
 use Rattle.ng_meaning.specs.Levels.{whole}
 use Rattle.ng_meaning.specs.Lists.{Text, has_text, first}
 use Rattle.ng_meaning.specs.Declared.{is_output}
-use Rattle.ng_meaning.specs.Template.{Form, Element, Host, Node, node_at}
+use Rattle.ng_meaning.specs.Template.{Form, Element, Host, node_at}
 use Rattle.ng_meaning.specs.Places.{Trail, Outlines, outlines}
 
 -- ---- the target, and the way

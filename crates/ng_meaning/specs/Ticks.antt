@@ -1,5 +1,5 @@
 -- How much a pass has to evaluate, at least and at most, by the instances that it checks: one tick is one evaluation of an expression.
-use Rattle.std.specs.Prelude.{ℕ, ◌+◌, Bool, true, false, ◌&&◌, not, if◌then◌else◌, List, [], ◌∷◌, map, length, Option, Some, None, is_some}
+use Rattle.std.specs.Prelude.{ℕ, ◌+◌, Bool, true, false, ◌&&◌, if◌then◌else◌, List, [], ◌∷◌, map, length, Some, None}
 use Rattle.std.specs.List.{list_any, sum}
 use Rattle.ng_ast.specs.declared.App.{App}
 use Rattle.ng_ast.specs.declared.Piece.{Piece}
@@ -11,15 +11,14 @@ use Rattle.ng_ast.specs.declared.Stmt.{Stmt, out-Stmt, size-Stmt}
 use Rattle.ng_ast.specs.declared.Stmt.TheOpen.{Stmt-F}
 use Rattle.ng_ast.specs.declared.Owner.{Owner}
 use Rattle.ng_ast.specs.declared.Owner.TheVariants as owner
-use Rattle.ng_ast.specs.declared.Member.{Member}
 use Rattle.ng_ast.specs.declared.MemberKind.{MemberKind}
 use Rattle.ng_ast.specs.declared.MemberKind.TheVariants as kind
 use Rattle.ng_meaning.specs.Levels.{whole}
 use Rattle.ng_meaning.specs.Same.{same_path}
 use Rattle.ng_meaning.specs.World.{World, is_live}
-use Rattle.ng_meaning.specs.Template.{Form, Element, Host, NgContainer, TextNode, If, For, Switch, Let, Branches, no_branches, branch, Node, nodes_of}
-use Rattle.ng_meaning.specs.Places.{Trail, Outline, Outlines, outlines}
-use Rattle.ng_meaning.specs.Tree.{NodeValue, RowList, View, Tree, State, empty, value_of}
+use Rattle.ng_meaning.specs.Template.{Form, Element, Host, NgContainer, TextNode, If, For, Switch, Let, Branches, no_branches, branch, nodes_of}
+use Rattle.ng_meaning.specs.Places.{Trail, Outlines, outlines}
+use Rattle.ng_meaning.specs.Tree.{NodeValue, RowList, View, Tree, State}
 use Rattle.ng_meaning.specs.Runs.{Turn}
 
 -- ---- the expressions of a view

@@ -9,9 +9,8 @@ use Rattle.ng_turns.specs.declared.Event.{Event}
 use Rattle.ng_turns.specs.declared.Op.{Op}
 use Rattle.ng_turns.specs.declared.Op.TheVariants as op
 use Rattle.ng_meaning.specs.Lists.{Text}
-use Rattle.ng_meaning.specs.Places.{Trail}
 use Rattle.ng_meaning.specs.Printing.{html}
-use Rattle.ng_meaning.specs.Runs.{Turn, Run, run_with}
+use Rattle.ng_meaning.specs.Runs.{Turn, run_with}
 use Rattle.ng_meaning.specs.Lines.{Wanted, event_lines, check_lines, report_lines, last_lines}
 use Rattle.ng_meaning.specs.Operations.{Numbered, nothing_numbered, AreOps}
 

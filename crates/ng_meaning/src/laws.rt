@@ -30,7 +30,7 @@ ghost use Rattle.ng_meaning.specs.Tree.{Marks, Tree, State};
 ghost use Rattle.ng_meaning.specs.Bindings.{outlet_layer, outlet_shown};
 ghost use Rattle.ng_meaning.specs.Passes.{lives, living, Passed, pass};
 ghost use Rattle.ng_meaning.specs.Targets.{ways_layer, ways, Listener, event_way, way_listeners};
-ghost use Rattle.ng_meaning.specs.Events.{Runner, act_layer, act, run_listener, runner, handled, idle, handle};
+ghost use Rattle.ng_meaning.specs.Events.{Act, Doing, Runner, act_layer, act, in_turn, run_listener, runner, handled, idle, handle};
 ghost use Rattle.ng_meaning.specs.Runs.{Turn, settled, run_from, run_with};
 ghost use Rattle.ng_meaning.specs.Page.{page_nodes, outlet_views, draw, draw_root, page, outlets_met};
 ghost use Rattle.ng_meaning.specs.Queries.{Live, live_within, all_live};
@@ -150,6 +150,15 @@ pub fn page_has_each_shown_node_once()
     ensures once { (app : App) (tree : Tree) → ViewsCounted tree.views → ShowsSlotsOnce app tree → Apart (node_ids (page app tree)) }
     ensures once_in_runs { (app : App) (every : Bool) (events : List Event) (t : Turn)
         → In t (run_with app every events).turns → ShowsSlotsOnce app t.state.tree → Apart (node_ids t.page) }
+{}
+
+/// The listeners of a way are started one after another: after a fault none is, and after one that ended the others are, unless
+/// the event was stopped.
+pub fn listeners_run_in_turn()
+    ensures faulted { (run : Listener → Act (Unit {0})) (l : Listener) (ls : List Listener) (d : Doing) (f : Fault)
+        → (run l d).0 ≡ Err f → in_turn run (l ∷ ls) d ≡ run l d }
+    ensures ended { (run : Listener → Act (Unit {0})) (l : Listener) (ls : List Listener) (d : Doing)
+        → (run l d).0 ≡ Ok tt → in_turn run (l ∷ ls) d ≡ (if (run l d).1.stopped then (Ok tt, (run l d).1) else in_turn run ls (run l d).1) }
 {}
 
 /// An event on whose way one listener hears it does what that listener does, as if the event didn't bubble.

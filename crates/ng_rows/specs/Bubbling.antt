@@ -13,7 +13,7 @@ use Rattle.ng_ast.specs.declared.TNode.TheVariants as node
 use Rattle.ng_ast.specs.declared.MemberKind.TheVariants as kind
 use Rattle.ng_ast.specs.declared.Decl.TheVariants as decl
 use Rattle.ng_ast.specs.declared.Binary.TheVariants as binary
-use Rattle.ng_rows.specs.Build.{at, attribute, branch, for_head, one, selector, member, component, service}
+use Rattle.ng_rows.specs.Build.{at, attribute, branch, for_head, one, selector, member, component}
 
 -- a button inside a division, and both listen:
 --     component R {

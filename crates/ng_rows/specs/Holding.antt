@@ -1,19 +1,17 @@
 -- Runs in which passes are held back.
 use Rattle.std.specs.Prelude.{[], ◌∷◌, pos, true, false, Some, None, codes}
-use Rattle.ng_values.specs.declared.plain.Plain.TheVariants as plain
 use Rattle.ng_values.specs.declared.value.Value.TheVariants as val
 use Rattle.ng_ast.specs.declared.App.{App}
 use Rattle.ng_ast.specs.declared.Expr.TheVariants as expr
 use Rattle.ng_ast.specs.declared.Stmt.TheVariants as stmt
 use Rattle.ng_ast.specs.declared.Owner.TheVariants as owner
-use Rattle.ng_ast.specs.declared.OutletForm.TheVariants as outlet
 use Rattle.ng_ast.specs.declared.Piece.TheVariants as piece
 use Rattle.ng_ast.specs.declared.AttrForm.TheVariants as form
 use Rattle.ng_ast.specs.declared.TNode.TheVariants as node
 use Rattle.ng_ast.specs.declared.MemberKind.TheVariants as kind
 use Rattle.ng_ast.specs.declared.Decl.TheVariants as decl
 use Rattle.ng_ast.specs.declared.Binary.TheVariants as binary
-use Rattle.ng_rows.specs.Build.{at, attribute, branch, for_head, one, selector, member, component, service}
+use Rattle.ng_rows.specs.Build.{at, attribute, branch, one, selector, member, component, service}
 
 -- a counter:
 --     component R {
@@ -139,3 +137,17 @@ held_view = record { decls = decl.Component (component (at 1 1 0) (codes "C") (s
 --     bootstrap R;
 abbrev pub held_bubbling : App
 held_bubbling = record { decls = decl.Component (component (at 1 1 0) (codes "R") (selector (one (Some (codes "r-r")) [] ∷ [])) false (member (at 3 3 34) (codes "n") (kind.Field (val.Int (pos 0))) ∷ member (at 4 3 49) (codes "m") (kind.Field (val.Int (pos 0))) ∷ []) (at 5 13 74) (node.Element (at 5 13 74) (codes "div") (attribute (at 5 18 79) (codes "click") (form.Listener (stmt.Set (at 5 27 88) (codes "m") (expr.Binary (at 5 31 92) binary.Add (expr.Name (at 5 31 92) (codes "m")) (expr.Literal (at 5 35 96) (val.Int (pos 1)))) ∷ [])) ∷ []) (node.Element (at 5 38 99) (codes "b") (attribute (at 5 41 102) (codes "click") (form.Listener (stmt.Set (at 5 50 111) (codes "n") (expr.Binary (at 5 54 115) binary.Add (expr.Name (at 5 54 115) (codes "n")) (expr.Literal (at 5 58 119) (val.Int (pos 1)))) ∷ [])) ∷ []) (node.Text (at 5 61 122) (piece.Value (at 5 61 122) (expr.Name (at 5 64 125) (codes "n")) ∷ piece.Value (at 5 68 129) (expr.Name (at 5 71 132) (codes "m")) ∷ []) ∷ []) ∷ []) ∷ [])) ∷ decl.Bootstrap (at 7 1 151) (codes "R") None ∷ [] }
+
+-- a service, and a component that reads its signal:
+--     service S root {
+--       signal a = 0;
+--       method put(v) { a.set(v); }
+--     }
+--     component R {
+--       selector 'r-r';
+--       inject s = S;
+--       template `{{ s.a() }}`;
+--     }
+--     bootstrap R;
+abbrev pub held_call : App
+held_call = record { decls = decl.Service (service (at 1 1 0) (codes "S") true (member (at 2 3 19) (codes "a") (kind.Signal (val.Int (pos 0))) ∷ member (at 3 3 35) (codes "put") (kind.Method (codes "v" ∷ []) (stmt.Send (at 3 19 51) (owner.Name (at 3 19 51) (codes "a")) (codes "set") (expr.Name (at 3 25 57) (codes "v") ∷ []) ∷ [])) ∷ [])) ∷ decl.Component (component (at 5 1 65) (codes "R") (selector (one (Some (codes "r-r")) [] ∷ [])) false (member (at 7 3 99) (codes "s") (kind.Inject (codes "S") []) ∷ []) (at 8 13 125) (node.Text (at 8 13 125) (piece.Value (at 8 13 125) (expr.Call (at 8 16 128) (expr.Member (at 8 16 128) (expr.Name (at 8 16 128) (codes "s")) (codes "a")) []) ∷ []) ∷ [])) ∷ decl.Bootstrap (at 10 1 141) (codes "R") None ∷ [] }

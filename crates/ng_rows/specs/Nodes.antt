@@ -1,25 +1,21 @@
 -- Live nodes that the page doesn't tell of.
 use Rattle.std.specs.Prelude.{List, [], ◌∷◌, map, false, Option, Some, None, codes}
-use Rattle.ng_values.specs.declared.plain.Plain.TheVariants as plain
 use Rattle.ng_values.specs.declared.value.Value.TheVariants as val
 use Rattle.ng_ast.specs.declared.App.{App}
 use Rattle.ng_ast.specs.declared.Expr.TheVariants as expr
 use Rattle.ng_ast.specs.declared.Stmt.TheVariants as stmt
-use Rattle.ng_ast.specs.declared.Owner.TheVariants as owner
-use Rattle.ng_ast.specs.declared.OutletForm.TheVariants as outlet
 use Rattle.ng_ast.specs.declared.Piece.TheVariants as piece
 use Rattle.ng_ast.specs.declared.AttrForm.TheVariants as form
 use Rattle.ng_ast.specs.declared.TNode.TheVariants as node
 use Rattle.ng_ast.specs.declared.MemberKind.TheVariants as kind
 use Rattle.ng_ast.specs.declared.Decl.TheVariants as decl
-use Rattle.ng_ast.specs.declared.Binary.TheVariants as binary
 use Rattle.ng_tree.specs.declared.NodeId.{NodeId}
 use Rattle.ng_turns.specs.declared.Event.{Event}
 use Rattle.ng_meaning.specs.Lists.{Text}
 use Rattle.ng_meaning.specs.Attributes.{Attributes}
 use Rattle.ng_meaning.specs.Runs.{run}
 use Rattle.ng_meaning.specs.Operations.{PageNode, MadeElement, live_node}
-use Rattle.ng_rows.specs.Build.{at, attribute, branch, for_head, one, selector, member, component, service}
+use Rattle.ng_rows.specs.Build.{at, attribute, one, selector, member, component}
 
 -- an attribute that is absent at first:
 --     component R {

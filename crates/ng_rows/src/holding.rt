@@ -4,7 +4,7 @@ ghost use Rattle.std.specs.Prelude.{◌≡◌, [], ◌∷◌, true, false, pos, 
 ghost use Rattle.ng_values.specs.declared.value.Value.TheVariants as val;
 ghost use Rattle.ng_meaning.specs.Lines.{lines};
 ghost use Rattle.ng_rows.specs.Build.{call, call_with, click, flush, hold, full, pages, traces};
-ghost use Rattle.ng_rows.specs.Holding.{held_counter, held_signal, held_marks, held_page, held_fault, held_birth, held_input, held_view, held_bubbling};
+ghost use Rattle.ng_rows.specs.Holding.{held_counter, held_signal, held_marks, held_page, held_fault, held_birth, held_input, held_view, held_bubbling, held_call};
 
 /// Between `hold` and `flush` events act, and no pass follows. A `flush` that has nothing to do shows the page again.
 pub fn passes_are_held_back()
@@ -420,5 +420,41 @@ pub fn held_events_bubble()
         ∷ codes "page 4"
         ∷ codes "<r-r><div><b>12</b></div></r-r>"
         ∷ codes "end 4"
+        ∷ [] }
+{}
+
+/// A held call that has a fault asks for a pass as others do.
+pub fn faulted_calls_ask_for_a_pass()
+    ensures member { lines held_call traces false (hold ∷ call (codes "S") (codes "nope") ∷ flush ∷ [])
+        ≡ codes "check . R"
+        ∷ codes "page 0"
+        ∷ codes "<r-r>0</r-r>"
+        ∷ codes "event 1 held"
+        ∷ codes "page 1"
+        ∷ codes "<r-r>0</r-r>"
+        ∷ codes "event 2 fault NoMember"
+        ∷ codes "page 2"
+        ∷ codes "<r-r>0</r-r>"
+        ∷ codes "event 3 flushed"
+        ∷ codes "check . R"
+        ∷ codes "page 3"
+        ∷ codes "<r-r>0</r-r>"
+        ∷ codes "end 3"
+        ∷ [] }
+    ensures provider { lines held_call traces false (hold ∷ call (codes "T") (codes "put") ∷ flush ∷ [])
+        ≡ codes "check . R"
+        ∷ codes "page 0"
+        ∷ codes "<r-r>0</r-r>"
+        ∷ codes "event 1 held"
+        ∷ codes "page 1"
+        ∷ codes "<r-r>0</r-r>"
+        ∷ codes "event 2 fault NoProvider(T)"
+        ∷ codes "page 2"
+        ∷ codes "<r-r>0</r-r>"
+        ∷ codes "event 3 flushed"
+        ∷ codes "check . R"
+        ∷ codes "page 3"
+        ∷ codes "<r-r>0</r-r>"
+        ∷ codes "end 3"
         ∷ [] }
 {}

@@ -1,12 +1,12 @@
 -- Listeners one after another: where there is one alone, the event is what that listener does.
-use Rattle.std.specs.Prelude.{◌≡◌, ℕ, Bool, true, false, if◌then◌else◌, List, [], ◌∷◌, Option, Some, Result, Ok, Err, refl}
-use Rattle.std.proofs.Common.{ap, ◌∙◌}
+use Rattle.std.specs.Prelude.{◌≡◌, ℕ, Bool, true, false, if◌then◌else◌, List, [], ◌∷◌, Some, Result, Ok, Err, refl}
+use Rattle.std.proofs.Common.{ap, sym, ◌∙◌}
 use Rattle.ng_values.specs.declared.value.Value.{Value}
 use Rattle.ng_values.specs.declared.fault.Fault.{Fault}
 use Rattle.ng_ast.specs.declared.App.{App}
 use Rattle.ng_tree.specs.declared.NodeId.{NodeId}
 use Rattle.ng_turns.specs.declared.Event.TheVariants as event
-use Rattle.ng_meaning.specs.Steps.{◌>>◌, pure, and_then}
+use Rattle.ng_meaning.specs.Steps.{pure, and_then}
 use Rattle.ng_meaning.specs.Lists.{Text}
 use Rattle.ng_meaning.specs.Expressions.{most_calls}
 use Rattle.ng_meaning.specs.Tree.{State}
@@ -34,6 +34,22 @@ alone (Err f) d = refl
 -- one listener, after which there is none
 pub one-IsAlone : (run : Listener → Act (Unit {0})) (l : Listener) (d : Doing) → in_turn run (l ∷ []) d ≡ run l d
 one-IsAlone run l d = alone (run l d).0 (run l d).1
+
+-- how far listeners go, by what comes of the first one
+module _ (run : Listener → Act (Unit {0})) (l : Listener) (ls : List Listener) (d : Doing) where
+  follows : (b : Bool) (m : Act (Unit {0})) (e : Doing) → (if b then nothing else m) e ≡ (if b then (Ok tt, e) else m e)
+  follows true m e = refl
+  follows false m e = refl
+
+  -- After a fault none is started.
+  pub in_turn-Faulted : (f : Fault) → (run l d).0 ≡ Err f → in_turn run (l ∷ ls) d ≡ run l d
+  in_turn-Faulted f e =
+      ap (λ (r : Result (Unit {0}) Fault). and_then r (run l d).1 (λ _. unless_stopped (in_turn run ls))) e ∙ sym (ap (λ (r : Result (Unit {0}) Fault). (r, (run l d).1)) e)
+
+  -- After one that ended the others follow, unless the event was stopped.
+  pub in_turn-Ended : (run l d).0 ≡ Ok tt → in_turn run (l ∷ ls) d ≡ (if (run l d).1.stopped then (Ok tt, (run l d).1) else in_turn run ls (run l d).1)
+  in_turn-Ended e =
+      ap (λ (r : Result (Unit {0}) Fault). and_then r (run l d).1 (λ _. unless_stopped (in_turn run ls))) e ∙ follows (run l d).1.stopped (in_turn run ls) (run l d).1
 
 module _ (app : App) (z : State) (name tag : Text) (n : ℕ) (value : Value) (way : List NodeId) where
   -- An event on whose way one listener hears it is what this listener does.

@@ -12,7 +12,7 @@ use Rattle.ng_meaning.specs.Places.{Trail}
 use Rattle.ng_meaning.specs.Tree.{Marks, none_marked, either, State}
 use Rattle.ng_meaning.specs.Passes.{Passed, pass}
 use Rattle.ng_meaning.specs.Events.{Handled, handle, asks_pass}
-use Rattle.ng_meaning.specs.Runs.{Turn, Ending, Run, onto, Running, beginning, settled, holds_after, without_pass, with_pass, stopped, then_pass, go_on, run_from, run_with}
+use Rattle.ng_meaning.specs.Runs.{Turn, Ending, Run, onto, Running, settled, holds_after, without_pass, with_pass, stopped, then_pass, go_on, run_from}
 
 -- an event that isn't `hold` or `flush`
 abbrev pub Acts : Event → Type 0
