@@ -1,6 +1,6 @@
 ghost use Rattle.std.specs.Prelude.{◌≡◌, IfOk};
 
-use crate::parts::{Part, copy_name, copy_parts};
+use crate::parts::{Part, both, copy_name, copy_parts};
 use crate::statements::copy_stmts;
 use crate::{AttrForm, OutletForm, Piece, TAttr};
 use sqlite_items::Boxed;
@@ -16,6 +16,7 @@ impl Part for Piece {
 }
 
 impl OutletForm {
+    #[cycle(copy_outlet)]
     fn copy(&self, alloc: Global) -> Result<OutletForm, AllocError>
         ensures { IfOk result (λ copy. copy ≡ self.now) }
     {
@@ -23,12 +24,20 @@ impl OutletForm {
             OutletForm::Null => Ok(OutletForm::Null),
             OutletForm::Name(place, name) => Ok(OutletForm::Name(*place, name.copy()?)),
             OutletForm::Choose(place, test, then, other) => {
-                let test = test.copy(alloc)?;
-                let then = Boxed::new(alloc, then.get().copy(alloc)?)?;
-                let other = Boxed::new(alloc, other.get().copy(alloc)?)?;
+                let then = then.get().copy_boxed(alloc);
+                let sides = both(then, other.get().copy_boxed(alloc));
+                let (test, (then, other)) = both(test.copy(alloc), sides)?;
                 Ok(OutletForm::Choose(*place, test, then, other))
             }
         }
+    }
+
+    #[cycle(copy_outlet)]
+    fn copy_boxed(&self, alloc: Global) -> Result<Boxed<OutletForm>, AllocError>
+        ensures { IfOk result (λ copy. copy ≡ self.now) }
+    {
+        let copy = self.copy(alloc)?;
+        Boxed::new(alloc, copy)
     }
 }
 
@@ -43,8 +52,8 @@ impl AttrForm {
             AttrForm::Attribute(value) => Ok(AttrForm::Attribute(value.copy(alloc)?)),
             AttrForm::Class(value) => Ok(AttrForm::Class(value.copy(alloc)?)),
             AttrForm::Style(unit, value) => {
-                let unit = copy_name(unit)?;
-                Ok(AttrForm::Style(unit, value.copy(alloc)?))
+                let (unit, value) = both(copy_name(unit), value.copy(alloc))?;
+                Ok(AttrForm::Style(unit, value))
             }
             AttrForm::Listener(stmts) => {
                 Ok(AttrForm::Listener(copy_stmts(alloc, stmts.as_slice())?))
@@ -60,10 +69,11 @@ impl AttrForm {
 
 impl Part for TAttr {
     fn copy_part(&self, alloc: Global) -> Result<TAttr, AllocError> {
+        let (name, form) = both(self.name.copy(), self.form.copy(alloc))?;
         Ok(TAttr {
             place: self.place,
-            name: self.name.copy()?,
-            form: self.form.copy(alloc)?,
+            name,
+            form,
         })
     }
 }

@@ -1,6 +1,6 @@
 ghost use Rattle.std.specs.Prelude.{◌≡◌, IfOk};
 
-use crate::parts::{Part, copy_name, copy_parts};
+use crate::parts::{Part, both, copy_name, copy_parts};
 use crate::statements::copy_stmts;
 use crate::{
     Aim, App, Component, Decl, Environment, Flag, Member, MemberKind, Pipe, Place, Provider,
@@ -26,12 +26,17 @@ impl Provider {
         match self {
             Provider::Plain(token) => Ok(Provider::Plain(token.copy()?)),
             Provider::Other(token, service) => {
-                Ok(Provider::Other(token.copy()?, service.copy()?))
+                let (token, service) = both(token.copy(), service.copy())?;
+                Ok(Provider::Other(token, service))
             }
             Provider::Constant(token, value) => {
-                Ok(Provider::Constant(token.copy()?, value.copy()?))
+                let (token, value) = both(token.copy(), value.copy())?;
+                Ok(Provider::Constant(token, value))
             }
-            Provider::From(token, other) => Ok(Provider::From(token.copy()?, other.copy()?)),
+            Provider::From(token, other) => {
+                let (token, other) = both(token.copy(), other.copy())?;
+                Ok(Provider::From(token, other))
+            }
         }
     }
 }
@@ -68,14 +73,14 @@ impl MemberKind {
             MemberKind::Signal(value) => Ok(MemberKind::Signal(value.copy()?)),
             MemberKind::Getter(value) => Ok(MemberKind::Getter(value.copy(alloc)?)),
             MemberKind::Method(params, body) => {
-                let params = copy_parts(alloc, params)?;
-                let body = copy_stmts(alloc, body.as_slice())?;
+                let body = copy_stmts(alloc, body.as_slice());
+                let (params, body) = both(copy_parts(alloc, params), body)?;
                 Ok(MemberKind::Method(params, body))
             }
             MemberKind::Init(body) => Ok(MemberKind::Init(copy_stmts(alloc, body.as_slice())?)),
             MemberKind::Inject(token, flags) => {
-                let token = token.copy()?;
-                Ok(MemberKind::Inject(token, copy_parts(alloc, flags)?))
+                let (token, flags) = both(token.copy(), copy_parts(alloc, flags))?;
+                Ok(MemberKind::Inject(token, flags))
             }
             MemberKind::Input(required, start) => Ok(MemberKind::Input(*required, start.copy()?)),
             MemberKind::Output => Ok(MemberKind::Output),
@@ -90,10 +95,11 @@ impl MemberKind {
 
 impl Part for Member {
     fn copy_part(&self, alloc: Global) -> Result<Member, AllocError> {
+        let (name, kind) = both(self.name.copy(), self.kind.copy(alloc))?;
         Ok(Member {
             place: self.place,
-            name: self.name.copy()?,
-            kind: self.kind.copy(alloc)?,
+            name,
+            kind,
         })
     }
 }
@@ -102,13 +108,17 @@ impl Component {
     fn copy(&self, alloc: Global) -> Result<Component, AllocError>
         ensures { IfOk result (λ copy. copy ≡ self.now) }
     {
+        let head = both(self.name.copy(), self.selector.copy(alloc));
+        let members = copy_parts(alloc, &self.members);
+        let body = both(members, self.template.copy(alloc));
+        let ((name, selector), (members, template)) = both(head, body)?;
         Ok(Component {
             place: self.place,
-            name: self.name.copy()?,
-            selector: self.selector.copy(alloc)?,
+            name,
+            selector,
             onpush: self.onpush,
-            members: copy_parts(alloc, &self.members)?,
-            template: self.template.copy(alloc)?,
+            members,
+            template,
         })
     }
 }
@@ -117,11 +127,12 @@ impl Service {
     fn copy(&self, alloc: Global) -> Result<Service, AllocError>
         ensures { IfOk result (λ copy. copy ≡ self.now) }
     {
+        let (name, members) = both(self.name.copy(), copy_parts(alloc, &self.members))?;
         Ok(Service {
             place: self.place,
-            name: self.name.copy()?,
+            name,
             root: self.root,
-            members: copy_parts(alloc, &self.members)?,
+            members,
         })
     }
 }
@@ -130,11 +141,13 @@ impl Pipe {
     fn copy(&self, alloc: Global) -> Result<Pipe, AllocError>
         ensures { IfOk result (λ copy. copy ≡ self.now) }
     {
+        let head = both(self.name.copy(), copy_parts(alloc, &self.params));
+        let ((name, params), value) = both(head, self.value.copy(alloc))?;
         Ok(Pipe {
             place: self.place,
-            name: self.name.copy()?,
-            params: copy_parts(alloc, &self.params)?,
-            value: self.value.copy(alloc)?,
+            name,
+            params,
+            value,
         })
     }
 }
@@ -143,11 +156,13 @@ impl Environment {
     fn copy(&self, alloc: Global) -> Result<Environment, AllocError>
         ensures { IfOk result (λ copy. copy ≡ self.now) }
     {
+        let head = both(self.name.copy(), copy_name(&self.under));
+        let ((name, under), provides) = both(head, copy_parts(alloc, &self.provides))?;
         Ok(Environment {
             place: self.place,
-            name: self.name.copy()?,
-            under: copy_name(&self.under)?,
-            provides: copy_parts(alloc, &self.provides)?,
+            name,
+            under,
+            provides,
         })
     }
 }
@@ -161,7 +176,8 @@ impl Part for Decl {
             Decl::Environment(environment) => Ok(Decl::Environment(environment.copy(alloc)?)),
             Decl::Token(place, name) => Ok(Decl::Token(*place, name.copy()?)),
             Decl::Bootstrap(place, name, under) => {
-                Ok(Decl::Bootstrap(*place, name.copy()?, copy_name(under)?))
+                let (name, under) = both(name.copy(), copy_name(under))?;
+                Ok(Decl::Bootstrap(*place, name, under))
             }
         }
     }

@@ -1,6 +1,7 @@
 ghost use Rattle.std.specs.Prelude.{◌≡◌, IfOk};
 
 use crate::Expr;
+use crate::parts::{both, push};
 use ng_values::NgText;
 use sqlite_items::{Boxed, Items};
 use std::alloc::{AllocError, Global};
@@ -25,38 +26,40 @@ impl Expr {
                 Ok(Expr::Unary(*place, *op, inner.get().copy_boxed(alloc)?))
             }
             Expr::Binary(place, op, left, right) => {
-                let left = left.get().copy_boxed(alloc)?;
-                let right = right.get().copy_boxed(alloc)?;
+                let left = left.get().copy_boxed(alloc);
+                let (left, right) = both(left, right.get().copy_boxed(alloc))?;
                 Ok(Expr::Binary(*place, *op, left, right))
             }
             Expr::Choose(place, test, then, other) => {
-                let test = test.get().copy_boxed(alloc)?;
-                let then = then.get().copy_boxed(alloc)?;
-                let other = other.get().copy_boxed(alloc)?;
+                let test = test.get().copy_boxed(alloc);
+                let then = then.get().copy_boxed(alloc);
+                let sides = both(then, other.get().copy_boxed(alloc));
+                let (test, (then, other)) = both(test, sides)?;
                 Ok(Expr::Choose(*place, test, then, other))
             }
             Expr::Member(place, of, name) => {
-                let of = of.get().copy_boxed(alloc)?;
-                Ok(Expr::Member(*place, of, name.copy()?))
+                let (of, name) = both(of.get().copy_boxed(alloc), name.copy())?;
+                Ok(Expr::Member(*place, of, name))
             }
             Expr::Safe(place, of, name) => {
-                let of = of.get().copy_boxed(alloc)?;
-                Ok(Expr::Safe(*place, of, name.copy()?))
+                let (of, name) = both(of.get().copy_boxed(alloc), name.copy())?;
+                Ok(Expr::Safe(*place, of, name))
             }
             Expr::Index(place, of, at) => {
-                let of = of.get().copy_boxed(alloc)?;
-                let at = at.get().copy_boxed(alloc)?;
+                let of = of.get().copy_boxed(alloc);
+                let (of, at) = both(of, at.get().copy_boxed(alloc))?;
                 Ok(Expr::Index(*place, of, at))
             }
             Expr::Call(place, callee, arguments) => {
-                let callee = callee.get().copy_boxed(alloc)?;
-                let arguments = copy_exprs(alloc, arguments.as_slice())?;
+                let callee = callee.get().copy_boxed(alloc);
+                let (callee, arguments) = both(callee, copy_exprs(alloc, arguments.as_slice()))?;
                 Ok(Expr::Call(*place, callee, arguments))
             }
             Expr::Pipe(place, input, name, arguments) => {
-                let input = input.get().copy_boxed(alloc)?;
-                let arguments = copy_exprs(alloc, arguments.as_slice())?;
-                Ok(Expr::Pipe(*place, input, name.copy()?, arguments))
+                let input = input.get().copy_boxed(alloc);
+                let named = both(name.copy(), copy_exprs(alloc, arguments.as_slice()));
+                let (input, (name, arguments)) = both(input, named)?;
+                Ok(Expr::Pipe(*place, input, name, arguments))
             }
         }
     }
@@ -77,7 +80,7 @@ pub(crate) fn copy_exprs(alloc: Global, exprs: &[Expr]) -> Result<Items<Expr>, A
 {
     let mut copies = Vec::with_capacity(alloc, exprs.len())?;
     for expr in exprs {
-        copies.push(expr.copy(alloc)?)?;
+        push(&mut copies, expr.copy(alloc)?)?;
     }
     Ok(Items::from_vec(copies))
 }
@@ -88,9 +91,8 @@ fn copy_pairs(alloc: Global, pairs: &[(NgText, Expr)]) -> Result<Items<(NgText, 
 {
     let mut copies = Vec::with_capacity(alloc, pairs.len())?;
     for pair in pairs {
-        let key = pair.0.copy()?;
-        let value = pair.1.copy(alloc)?;
-        copies.push((key, value))?;
+        let copy = both(pair.0.copy(), pair.1.copy(alloc))?;
+        push(&mut copies, copy)?;
     }
     Ok(Items::from_vec(copies))
 }

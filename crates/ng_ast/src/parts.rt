@@ -1,4 +1,4 @@
-ghost use Rattle.std.specs.Prelude.{◌≡◌, IfOk};
+ghost use Rattle.std.specs.Prelude.{◌≡◌, ◌++◌, [], ◌∷◌, IfOk, OnOk, Ok};
 
 use crate::Place;
 use ng_values::NgText;
@@ -23,6 +23,23 @@ pub(crate) fn copy_parts<T: Part>(alloc: Global, parts: &Items<T>) -> Result<Ite
     Ok(Items::from_vec(copies))
 }
 
+/// One more at the end.
+pub(crate) fn push<T: Drop>(copies: &mut Vec<T>, copy: T) -> Result<(), AllocError>
+    ensures { OnOk result (copies.new.items ≡ copies.old.items ++ copy ∷ []) }
+{
+    Ok(copies.push(copy)?)
+}
+
+/// Both, where memory sufficed for each. So a copy of two parts has one way out where memory is wanting, and nothing to drop there.
+pub(crate) fn both<A: Drop, B: Drop>(
+    first: Result<A, AllocError>,
+    second: Result<B, AllocError>,
+) -> Result<(A, B), AllocError>
+    ensures { IfOk result (λ made. (first ≡ Ok made.0) × (second ≡ Ok made.1)) }
+{
+    Ok((first?, second?))
+}
+
 /// An equal text, where there is one.
 pub(crate) fn copy_name(name: &Option<NgText>) -> Result<Option<NgText>, AllocError>
     ensures { IfOk result (λ copy. copy ≡ name.now) }
@@ -41,6 +58,6 @@ impl Part for NgText {
 
 impl Part for (NgText, NgText) {
     fn copy_part(&self, _alloc: Global) -> Result<(NgText, NgText), AllocError> {
-        Ok((self.0.copy()?, self.1.copy()?))
+        both(self.0.copy(), self.1.copy())
     }
 }

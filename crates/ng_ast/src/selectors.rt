@@ -1,6 +1,6 @@
 ghost use Rattle.std.specs.Prelude.{◌≡◌, IfOk};
 
-use crate::parts::copy_name;
+use crate::parts::{both, copy_name, push};
 use crate::{One, SelPart, Selector};
 use sqlite_items::{Boxed, Items};
 use std::alloc::{AllocError, Global};
@@ -19,8 +19,8 @@ impl One {
     fn copy(&self, alloc: Global) -> Result<One, AllocError>
         ensures { IfOk result (λ copy. copy ≡ self.now) }
     {
-        let tag = copy_name(&self.tag)?;
-        let parts = copy_sel_parts(alloc, self.parts.as_slice())?;
+        let parts = copy_sel_parts(alloc, self.parts.as_slice());
+        let (tag, parts) = both(copy_name(&self.tag), parts)?;
         Ok(One { tag, parts })
     }
 }
@@ -32,7 +32,10 @@ impl SelPart {
     {
         match self {
             SelPart::Has(name) => Ok(SelPart::Has(name.copy()?)),
-            SelPart::Is(name, value) => Ok(SelPart::Is(name.copy()?, value.copy()?)),
+            SelPart::Is(name, value) => {
+                let (name, value) = both(name.copy(), value.copy())?;
+                Ok(SelPart::Is(name, value))
+            }
             SelPart::Class(name) => Ok(SelPart::Class(name.copy()?)),
             SelPart::Not(inner) => {
                 let inner = inner.get().copy(alloc)?;
@@ -48,7 +51,7 @@ fn copy_ones(alloc: Global, ones: &[One]) -> Result<Items<One>, AllocError>
 {
     let mut copies = Vec::with_capacity(alloc, ones.len())?;
     for one in ones {
-        copies.push(one.copy(alloc)?)?;
+        push(&mut copies, one.copy(alloc)?)?;
     }
     Ok(Items::from_vec(copies))
 }
@@ -59,7 +62,7 @@ fn copy_sel_parts(alloc: Global, parts: &[SelPart]) -> Result<Items<SelPart>, Al
 {
     let mut copies = Vec::with_capacity(alloc, parts.len())?;
     for part in parts {
-        copies.push(part.copy(alloc)?)?;
+        push(&mut copies, part.copy(alloc)?)?;
     }
     Ok(Items::from_vec(copies))
 }

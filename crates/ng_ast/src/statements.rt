@@ -1,6 +1,7 @@
 ghost use Rattle.std.specs.Prelude.{◌≡◌, IfOk};
 
 use crate::expressions::copy_exprs;
+use crate::parts::{both, push};
 use crate::{Expr, Owner, Place, Stmt};
 use ng_values::NgText;
 use sqlite_items::Items;
@@ -14,8 +15,8 @@ impl Owner {
             Owner::Name(place, name) => Ok(Owner::Name(*place, name.copy()?)),
             Owner::Safe(place, name) => Ok(Owner::Safe(*place, name.copy()?)),
             Owner::Item(place, name, at) => {
-                let at = at.copy(alloc)?;
-                Ok(Owner::Item(*place, name.copy()?, at))
+                let (name, at) = both(name.copy(), at.copy(alloc))?;
+                Ok(Owner::Item(*place, name, at))
             }
         }
     }
@@ -33,9 +34,10 @@ impl Stmt {
                 Ok(copy_send(alloc, *place, owner, name, arguments)?)
             }
             Stmt::If(place, test, then, other) => {
-                let then = copy_stmts(alloc, then.as_slice())?;
-                let other = copy_stmts(alloc, other.as_slice())?;
-                Ok(Stmt::If(*place, test.copy(alloc)?, then, other))
+                let then = copy_stmts(alloc, then.as_slice());
+                let sides = both(then, copy_stmts(alloc, other.as_slice()));
+                let (test, (then, other)) = both(test.copy(alloc), sides)?;
+                Ok(Stmt::If(*place, test, then, other))
             }
         }
     }
@@ -44,7 +46,8 @@ impl Stmt {
 fn copy_set(alloc: Global, place: Place, name: &NgText, value: &Expr) -> Result<Stmt, AllocError>
     ensures { IfOk result (λ copy. copy ≡ Stmt.Set place name.now value.now) }
 {
-    Ok(Stmt::Set(place, name.copy()?, value.copy(alloc)?))
+    let (name, value) = both(name.copy(), value.copy(alloc))?;
+    Ok(Stmt::Set(place, name, value))
 }
 
 fn copy_do(
@@ -55,8 +58,8 @@ fn copy_do(
 ) -> Result<Stmt, AllocError>
     ensures { IfOk result (λ copy. copy ≡ Stmt.Do place name.now arguments.now) }
 {
-    let name = name.copy()?;
-    let arguments = copy_exprs(alloc, arguments.as_slice())?;
+    let arguments = copy_exprs(alloc, arguments.as_slice());
+    let (name, arguments) = both(name.copy(), arguments)?;
     Ok(Stmt::Do(place, name, arguments))
 }
 
@@ -69,9 +72,10 @@ fn copy_send(
 ) -> Result<Stmt, AllocError>
     ensures { IfOk result (λ copy. copy ≡ Stmt.Send place owner.now name.now arguments.now) }
 {
-    let name = name.copy()?;
-    let arguments = copy_exprs(alloc, arguments.as_slice())?;
-    Ok(Stmt::Send(place, owner.copy(alloc)?, name, arguments))
+    let arguments = copy_exprs(alloc, arguments.as_slice());
+    let call = both(name.copy(), arguments);
+    let (owner, (name, arguments)) = both(owner.copy(alloc), call)?;
+    Ok(Stmt::Send(place, owner, name, arguments))
 }
 
 /// An equal list of statements.
@@ -81,7 +85,7 @@ pub(crate) fn copy_stmts(alloc: Global, stmts: &[Stmt]) -> Result<Items<Stmt>, A
 {
     let mut copies = Vec::with_capacity(alloc, stmts.len())?;
     for stmt in stmts {
-        copies.push(stmt.copy(alloc)?)?;
+        push(&mut copies, stmt.copy(alloc)?)?;
     }
     Ok(Items::from_vec(copies))
 }

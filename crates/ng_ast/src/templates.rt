@@ -1,7 +1,7 @@
 ghost use Rattle.std.specs.Prelude.{◌≡◌, IfOk};
 
 use crate::expressions::copy_test;
-use crate::parts::{copy_name, copy_parts};
+use crate::parts::{both, copy_name, copy_parts, push};
 use crate::{Branch, ForHead, TNode, Template};
 use sqlite_items::Items;
 use std::alloc::{AllocError, Global};
@@ -24,11 +24,15 @@ impl ForHead {
     fn copy(&self, alloc: Global) -> Result<ForHead, AllocError>
         ensures { IfOk result (λ copy. copy ≡ self.now) }
     {
+        let rows = both(self.row.copy(), self.list.copy(alloc));
+        let track = copy_test(alloc, &self.track);
+        let more = both(track, copy_parts(alloc, &self.vars));
+        let ((row, list), (track, vars)) = both(rows, more)?;
         Ok(ForHead {
-            row: self.row.copy()?,
-            list: self.list.copy(alloc)?,
-            track: copy_test(alloc, &self.track)?,
-            vars: copy_parts(alloc, &self.vars)?,
+            row,
+            list,
+            track,
+            vars,
         })
     }
 }
@@ -40,9 +44,10 @@ impl TNode {
     {
         match self {
             TNode::Element(place, tag, attrs, nodes) => {
-                let tag = tag.copy()?;
-                let attrs = copy_parts(alloc, attrs)?;
-                Ok(TNode::Element(*place, tag, attrs, copy_nodes(alloc, nodes.as_slice())?))
+                let attrs = copy_parts(alloc, attrs);
+                let inside = both(attrs, copy_nodes(alloc, nodes.as_slice()));
+                let (tag, (attrs, nodes)) = both(tag.copy(), inside)?;
+                Ok(TNode::Element(*place, tag, attrs, nodes))
             }
             TNode::Text(place, pieces) => Ok(TNode::Text(*place, copy_parts(alloc, pieces)?)),
             TNode::If(place, branches) => {
@@ -50,16 +55,19 @@ impl TNode {
                 Ok(TNode::If(*place, branches))
             }
             TNode::For(place, head, nodes, empty) => {
-                let nodes = copy_nodes(alloc, nodes.as_slice())?;
-                let empty = copy_empty(alloc, empty)?;
-                Ok(TNode::For(*place, head.copy(alloc)?, nodes, empty))
+                let nodes = copy_nodes(alloc, nodes.as_slice());
+                let inside = both(nodes, copy_empty(alloc, empty));
+                let (head, (nodes, empty)) = both(head.copy(alloc), inside)?;
+                Ok(TNode::For(*place, head, nodes, empty))
             }
             TNode::Switch(place, value, branches) => {
-                let branches = copy_branches(alloc, branches.as_slice())?;
-                Ok(TNode::Switch(*place, value.copy(alloc)?, branches))
+                let branches = copy_branches(alloc, branches.as_slice());
+                let (value, branches) = both(value.copy(alloc), branches)?;
+                Ok(TNode::Switch(*place, value, branches))
             }
             TNode::Let(place, name, value) => {
-                Ok(TNode::Let(*place, name.copy()?, value.copy(alloc)?))
+                let (name, value) = both(name.copy(), value.copy(alloc))?;
+                Ok(TNode::Let(*place, name, value))
             }
         }
     }
@@ -70,9 +78,8 @@ impl Branch {
     fn copy(&self, alloc: Global) -> Result<Branch, AllocError>
         ensures { IfOk result (λ copy. copy ≡ self.now) }
     {
-        let test = copy_test(alloc, &self.test)?;
-        let name = copy_name(&self.name)?;
-        let nodes = copy_nodes(alloc, self.nodes.as_slice())?;
+        let head = both(copy_test(alloc, &self.test), copy_name(&self.name));
+        let ((test, name), nodes) = both(head, copy_nodes(alloc, self.nodes.as_slice()))?;
         Ok(Branch {
             place: self.place,
             test,
@@ -88,7 +95,7 @@ fn copy_nodes(alloc: Global, nodes: &[TNode]) -> Result<Items<TNode>, AllocError
 {
     let mut copies = Vec::with_capacity(alloc, nodes.len())?;
     for node in nodes {
-        copies.push(node.copy(alloc)?)?;
+        push(&mut copies, node.copy(alloc)?)?;
     }
     Ok(Items::from_vec(copies))
 }
@@ -99,7 +106,7 @@ fn copy_branches(alloc: Global, branches: &[Branch]) -> Result<Items<Branch>, Al
 {
     let mut copies = Vec::with_capacity(alloc, branches.len())?;
     for branch in branches {
-        copies.push(branch.copy(alloc)?)?;
+        push(&mut copies, branch.copy(alloc)?)?;
     }
     Ok(Items::from_vec(copies))
 }

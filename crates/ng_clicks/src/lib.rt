@@ -4,6 +4,3 @@
 mod clicks;
 
 pub use clicks::{ClickError, read_clicks};
-
-#[cfg(test)]
-mod tests;

@@ -135,6 +135,3 @@ pub fn cycles(alloc: Global, graph: &[Items<usize>]) -> Result<Vec<bool>, AllocE
     }
     Ok(answers)
 }
-
-#[cfg(test)]
-mod tests;

@@ -8,7 +8,7 @@ ghost use Rattle.ng_nodes.specs.Waits.{if_of};
 ghost use Rattle.ng_nodes.specs.declared.state.Waiting.TheVariants as wt;
 
 use crate::halt::Halt;
-use crate::state::{Opener, State, Waiting};
+use crate::state::{Opener, State, Waiting, put};
 use crate::text::{all_blank, is_gap};
 use ng_ast::{Branch, Expr, Place};
 use ng_lex::{Letter, Shape};
@@ -109,13 +109,19 @@ impl State {
     {
         match mem::replace(&mut self.opener, Opener::Root) {
             Opener::Switch(block, of, before) => {
-                self.opener = Opener::Case(block, of, before, place, value);
-                self.nodes = Items::new(alloc);
-                self.waiting = Waiting::Nobody;
-                self.run = None;
+                put(
+                    &mut self.opener,
+                    Opener::Case(block, of, before, place, value),
+                );
+                put(&mut self.nodes, Items::new(alloc));
+                self.clear();
                 Ok(())
             }
-            _ => Err(Halt::Syntax(place)),
+            other => {
+                drop(other);
+                drop(value);
+                Err(Halt::Syntax(place))
+            }
         }
     }
 

@@ -36,8 +36,9 @@ impl<'a, R: Files> HostShelf<'a, R> {
         }
     }
 
-    // Reads a file to its end, or until it has given one byte more than the limit. Each turn takes at least one byte.
-    pub(crate) fn read_within<F: Read>(
+    /// Reads a file that is open to its end, or until it has given one byte more than the limit. Each turn takes at least one byte. A read
+    /// that fails is a failure of the shelf.
+    pub fn read_within<F: Read>(
         &mut self,
         alloc: Global,
         file: &mut F,

@@ -16,6 +16,3 @@ pub use memory::{MemShelf, MemSink};
 pub use shelf::{FetchError, Shelf};
 pub use sink::{Sink, SinkError};
 pub use sure::{SureShelf, SureSink};
-
-#[cfg(test)]
-mod tests;

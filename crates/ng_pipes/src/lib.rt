@@ -4,6 +4,3 @@
 mod builtin;
 
 pub use builtin::{PipeId, apply};
-
-#[cfg(test)]
-mod tests;

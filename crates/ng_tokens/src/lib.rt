@@ -10,6 +10,3 @@ pub use kinds::{Kind, Shape, Sign, Token};
 pub use lexer::{ScanError, one_scan, piece, scan, shape};
 pub use place::steps;
 pub use signs::{begins, same_text};
-
-#[cfg(test)]
-mod tests;

@@ -38,18 +38,31 @@ fn call_of_list(alloc: Global, items: &[Value], name: &str, args: &[Value]) -> R
 {
     let first = argument(args, 0)?;
     let second = argument(args, 1)?;
+    call_with(alloc, items, name, &first, &second)
+}
+
+// A call of a list with its two arguments.
+fn call_with(
+    alloc: Global,
+    items: &[Value],
+    name: &str,
+    first: &Value,
+    second: &Value,
+) -> Result<Value, Stop>
+    ensures { Answers (list_call name.now (plain_items items.now) first.now second.now) result }
+{
     if name == "concat" {
-        concat(alloc, items, &first)
+        concat(alloc, items, first)
     } else if name == "slice" {
-        slice(alloc, items, &first, &second)
+        slice(alloc, items, first, second)
     } else if name == "with" {
-        with_item(alloc, items, &first, &second)
+        with_item(alloc, items, first, second)
     } else if name == "toSpliced" {
-        to_spliced(alloc, items, &first, &second)
+        to_spliced(alloc, items, first, second)
     } else if name == "indexOf" {
-        Ok(number_of(index_of(items, &first)))
+        Ok(number_of(index_of(items, first)))
     } else if name == "includes" {
-        Ok(Value::Bool(index_of(items, &first).is_some()))
+        Ok(Value::Bool(index_of(items, first).is_some()))
     } else {
         Err(Stop::Fault(Fault::NoMember))
     }
@@ -141,7 +154,7 @@ fn replaced(
 {
     let mut out = Vec::new(alloc);
     append(&mut out, front(items, at))?;
-    out.push(value.copy()?)?;
+    push(&mut out, value)?;
     append(&mut out, rest(items, at + 1))?;
     Ok(out)
 }
@@ -179,10 +192,17 @@ fn and_pair(
 {
     let mut out = Vec::new(alloc);
     for pair in pairs {
-        out.push((pair.0.copy()?, pair.1.copy()?))?;
+        push_pair(&mut out, &pair.0, &pair.1)?;
     }
-    out.push((key.copy()?, value.copy()?))?;
+    push_pair(&mut out, key, value)?;
     Ok(out)
+}
+
+fn push_pair(out: &mut Vec<(NgText, Value)>, key: &NgText, value: &Value) -> Result<(), AllocError>
+    ensures { OnOk result (plain_pairs out.new.items ≡ plain_pairs out.old.items ++ (key.now, plain value.now) ∷ []) }
+{
+    let pair = (key.copy()?, value.copy()?);
+    Ok(out.push(pair)?)
 }
 
 // The list of the items of both.
@@ -199,9 +219,16 @@ fn append(out: &mut Vec<Value>, items: &[Value]) -> Result<(), AllocError>
     ensures { OnOk result (plain_items out.new.items ≡ plain_items out.old.items ++ plain_items items.now) }
 {
     for item in items {
-        out.push(item.copy()?)?;
+        push(out, item)?;
     }
     Ok(())
+}
+
+fn push(out: &mut Vec<Value>, item: &Value) -> Result<(), AllocError>
+    ensures { OnOk result (plain_items out.new.items ≡ plain_items out.old.items ++ plain item.now ∷ []) }
+{
+    let item = item.copy()?;
+    Ok(out.push(item)?)
 }
 
 // The first items, at most this many.

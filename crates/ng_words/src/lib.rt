@@ -11,6 +11,3 @@ mod reading;
 
 pub use order::{Flags, Order};
 pub use reading::{Refused, read_words};
-
-#[cfg(test)]
-mod tests;

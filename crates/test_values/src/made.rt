@@ -1,0 +1,76 @@
+//! Values that several tests begin with, and short names of what calls give.
+
+use ng_values::{Fault, NgText, Stop, Value, list, rec};
+use std::alloc::{AllocError, Global};
+
+pub fn push<T: Drop>(items: &mut Vec<T>, item: T) -> Result<(), AllocError> {
+    Ok(items.push(item)?)
+}
+
+pub fn one<T: Drop>(alloc: Global, item: T) -> Result<Vec<T>, AllocError> {
+    Ok(vec![in alloc; item]?)
+}
+
+pub fn two<T: Drop>(alloc: Global, first: T, second: T) -> Result<Vec<T>, AllocError> {
+    Ok(vec![in alloc; first, second]?)
+}
+
+pub fn text(alloc: Global, letters: &str) -> Result<Value, Stop> {
+    Ok(Value::Text(NgText::new(alloc, letters)?))
+}
+
+// The list of these numbers.
+pub fn numbers(alloc: Global, from: &[i64]) -> Result<Value, Stop> {
+    let mut items = Vec::new(alloc);
+    for number in from {
+        push(&mut items, Value::Int(*number))?;
+    }
+    list(alloc, items)
+}
+
+// The record of these keys and numbers.
+pub fn record(alloc: Global, from: &[(&str, i64)]) -> Result<Value, Stop> {
+    let mut pairs = Vec::new(alloc);
+    for (key, number) in from {
+        push(&mut pairs, (NgText::new(alloc, key)?, Value::Int(*number)))?;
+    }
+    rec(alloc, pairs)
+}
+
+// The number, or null.
+pub fn number_or_null(number: Option<i64>) -> Value {
+    match number {
+        Some(number) => Value::Int(number),
+        None => Value::Null,
+    }
+}
+
+pub fn fault_name(fault: &Fault) -> &'static str {
+    match fault {
+        Fault::Overflow => "Overflow",
+        Fault::DivideByZero => "DivideByZero",
+        Fault::WrongKind => "WrongKind",
+        Fault::NullRead => "NullRead",
+        Fault::NoMember => "NoMember",
+        Fault::ValueTooLarge => "ValueTooLarge",
+        Fault::ValueTooDeep => "ValueTooDeep",
+        _ => "another fault",
+    }
+}
+
+// Why a call gave no value.
+pub fn stop_name(made: &Result<Value, Stop>) -> &'static str {
+    match made {
+        Ok(_) => "none",
+        Err(Stop::Fault(fault)) => fault_name(fault),
+        Err(Stop::Memory) => "Memory",
+    }
+}
+
+// The text form of what a call gave, or the name of the fault.
+pub fn shown(alloc: Global, made: Result<Value, Stop>) -> Result<NgText, AllocError> {
+    match &made {
+        Ok(value) => value.text_of(alloc),
+        _ => NgText::new(alloc, stop_name(&made)),
+    }
+}
