@@ -5,6 +5,3 @@ mod app;
 mod fill;
 
 pub use app::{one_app, read_app, templates_keep_the_limits};
-
-#[cfg(test)]
-mod tests;

@@ -18,6 +18,3 @@ pub use names::{form_of, without_value, word_of};
 pub use pieces::plain;
 pub use spelled::{Decoded, decode_value};
 pub use stop::Stop;
-
-#[cfg(test)]
-mod tests;

@@ -6,6 +6,3 @@ mod name_rules;
 
 pub use least::{judge_repeats, offer, offer_all, offer_word};
 pub use name_rules::{is_input, is_output, judge_usage};
-
-#[cfg(test)]
-mod tests;

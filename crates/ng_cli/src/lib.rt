@@ -14,6 +14,3 @@ pub use inputs::Stop;
 pub use refusal::Refusal;
 pub use status::Status;
 pub use top::ivy;
-
-#[cfg(test)]
-mod tests;

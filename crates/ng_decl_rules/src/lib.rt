@@ -5,6 +5,3 @@ mod decl_rules;
 mod member_rules;
 
 pub use decl_rules::judge_declarations;
-
-#[cfg(test)]
-mod tests;

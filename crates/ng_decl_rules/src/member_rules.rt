@@ -13,6 +13,7 @@ ghost use Rattle.ng_decl_rules.specs.MemberRules as spec;
 use ng_ast::{Aim, Flag, Member, MemberKind, Place, Provider, Refusal, Rule};
 use ng_breaks::{judge_repeats, offer, offer_word};
 use ng_parts::{Declared, Kind, Site, push_site};
+use ng_scopes::sort_of;
 use ng_values::NgText;
 use std::alloc::{AllocError, Global};
 use std::collections::HashMap;
@@ -305,39 +306,9 @@ fn judge_member(
 fn push_member_site(member: &Member, sites: &mut Vec<Site>) -> Result<(), AllocError>
     ensures { OnOk result (sites.new.items ≡ sites.old.items ++ spec.member_site member.now) }
 {
-    match &member.kind {
-        MemberKind::Init(_) => Ok(()),
-        MemberKind::Provide(_) => Ok(()),
-        MemberKind::ViewProvide(_) => Ok(()),
-        MemberKind::Field(_) => {
-            push_site(member.place, &member.name, sites)?;
-            Ok(())
-        }
-        MemberKind::Signal(_) => {
-            push_site(member.place, &member.name, sites)?;
-            Ok(())
-        }
-        MemberKind::Getter(_) => {
-            push_site(member.place, &member.name, sites)?;
-            Ok(())
-        }
-        MemberKind::Method(_, _) => {
-            push_site(member.place, &member.name, sites)?;
-            Ok(())
-        }
-        MemberKind::Inject(_, _) => {
-            push_site(member.place, &member.name, sites)?;
-            Ok(())
-        }
-        MemberKind::Input(_, _) => {
-            push_site(member.place, &member.name, sites)?;
-            Ok(())
-        }
-        MemberKind::Output => {
-            push_site(member.place, &member.name, sites)?;
-            Ok(())
-        }
-        MemberKind::Query(_, _, _) => {
+    match sort_of(&member.kind) {
+        None => Ok(()),
+        Some(_) => {
             push_site(member.place, &member.name, sites)?;
             Ok(())
         }

@@ -105,13 +105,18 @@ fn pipe(cursor: &mut Cursor<'_>, place: Place) -> Result<Entry, Halt>
     cursor.sign(Sign::CloseRound)?;
     cursor.sign(Sign::Assign)?;
     let value = expression(cursor)?;
-    cursor.sign(Sign::Semicolon)?;
-    Ok(Entry::Pipe(Pipe {
-        place,
-        name,
-        params,
-        value,
-    }))
+    match cursor.sign(Sign::Semicolon) {
+        Ok(()) => Ok(Entry::Pipe(Pipe {
+            place,
+            name,
+            params,
+            value,
+        })),
+        Err(halt) => {
+            drop(value);
+            Err(halt)
+        }
+    }
 }
 
 // The name after a word, where the word stands.

@@ -8,7 +8,7 @@ use ng_tokens::{Kind, Sign, piece};
 use std::alloc::{AllocError, Global};
 
 /// What stands next on the way to the end: nothing that can be read, the end, or so many bytes, after which so many brackets are open.
-#[derive(Clone, Copy, Debug, PartialEq, Eq)]
+#[derive(Clone, Copy)]
 pub enum Turn {
     Stuck,
     Ended,

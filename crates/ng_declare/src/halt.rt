@@ -4,14 +4,14 @@ use ng_ast::{Place, ReadError};
 use std::alloc::{AllocError, AllocFailed};
 
 /// What is read by another reader.
-#[derive(Clone, Copy, Debug, PartialEq, Eq)]
+#[derive(Clone, Copy)]
 pub enum Part {
     Expression,
     Body,
 }
 
 /// No reading, a limit that is passed, want of memory, or the refusal of another reader.
-#[derive(Debug, Drop)]
+#[derive(Drop)]
 pub enum Halt {
     Syntax(Place),
     Limit(Place),

@@ -18,6 +18,3 @@ mod words;
 
 pub use entries::{Entry, Outline, Source};
 pub use file::{one_file, read_file};
-
-#[cfg(test)]
-mod tests;

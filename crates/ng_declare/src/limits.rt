@@ -31,7 +31,7 @@ pub fn push_within<T: Drop>(
 }
 
 /// How many declarations there are of each kind that has a limit.
-#[derive(Clone, Copy, Debug, PartialEq, Eq)]
+#[derive(Clone, Copy)]
 pub struct Counts {
     pub components: usize,
     pub services: usize,

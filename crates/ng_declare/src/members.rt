@@ -169,8 +169,8 @@ fn output(cursor: &mut Cursor<'_>, place: Place) -> Result<Member, Halt>
 fn provide(cursor: &mut Cursor<'_>, place: Place) -> Result<Member, Halt>
     ensures { Gives (read (gram.provide place) cursor.old.place cursor.old.rest.now) result cursor.new.place cursor.new.rest.now }
 {
-    let provider = provider_line(cursor)?;
     let name = NgText::new(cursor.alloc, "")?;
+    let provider = provider_line(cursor)?;
     Ok(Member {
         place,
         name,
@@ -182,8 +182,8 @@ fn provide(cursor: &mut Cursor<'_>, place: Place) -> Result<Member, Halt>
 fn view_provide(cursor: &mut Cursor<'_>, place: Place) -> Result<Member, Halt>
     ensures { Gives (read (gram.view_provide place) cursor.old.place cursor.old.rest.now) result cursor.new.place cursor.new.rest.now }
 {
-    let provider = provider_line(cursor)?;
     let name = NgText::new(cursor.alloc, "")?;
+    let provider = provider_line(cursor)?;
     Ok(Member {
         place,
         name,
@@ -198,12 +198,17 @@ fn queried(cursor: &mut Cursor<'_>, place: Place, what: QueryKind) -> Result<Mem
     let name = cursor.name()?;
     cursor.sign(Sign::Assign)?;
     let aim = aimed(cursor)?;
-    cursor.sign(Sign::Semicolon)?;
-    Ok(Member {
-        place,
-        name,
-        kind: MemberKind::Query(what, aim, false),
-    })
+    match cursor.sign(Sign::Semicolon) {
+        Ok(()) => Ok(Member {
+            place,
+            name,
+            kind: MemberKind::Query(what, aim, false),
+        }),
+        Err(halt) => {
+            drop(aim);
+            Err(halt)
+        }
+    }
 }
 
 #[tactic(auto, unfolding(ng_phrases::specs::Parse::parse, crate::specs::Members::content_children))]
@@ -213,13 +218,24 @@ fn content_children(cursor: &mut Cursor<'_>, place: Place) -> Result<Member, Hal
     let name = cursor.name()?;
     cursor.sign(Sign::Assign)?;
     let aim = aimed(cursor)?;
-    let descendants = marked(cursor, b"descendants")?;
-    cursor.sign(Sign::Semicolon)?;
-    Ok(Member {
-        place,
-        name,
-        kind: MemberKind::Query(QueryKind::ContentChildren, aim, descendants),
-    })
+    let descendants = match marked(cursor, b"descendants") {
+        Ok(descendants) => descendants,
+        Err(halt) => {
+            drop(aim);
+            return Err(halt);
+        }
+    };
+    match cursor.sign(Sign::Semicolon) {
+        Ok(()) => Ok(Member {
+            place,
+            name,
+            kind: MemberKind::Query(QueryKind::ContentChildren, aim, descendants),
+        }),
+        Err(halt) => {
+            drop(aim);
+            Err(halt)
+        }
+    }
 }
 
 #[tactic(auto, unfolding(ng_phrases::specs::Parse::parse, crate::specs::Members::getter))]
@@ -229,12 +245,17 @@ fn getter(cursor: &mut Cursor<'_>, place: Place) -> Result<Member, Halt>
     let name = cursor.name()?;
     cursor.sign(Sign::Assign)?;
     let value = expression(cursor)?;
-    cursor.sign(Sign::Semicolon)?;
-    Ok(Member {
-        place,
-        name,
-        kind: MemberKind::Getter(value),
-    })
+    match cursor.sign(Sign::Semicolon) {
+        Ok(()) => Ok(Member {
+            place,
+            name,
+            kind: MemberKind::Getter(value),
+        }),
+        Err(halt) => {
+            drop(value);
+            Err(halt)
+        }
+    }
 }
 
 // A body in braces.

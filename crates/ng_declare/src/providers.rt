@@ -45,8 +45,13 @@ pub fn provider_line(cursor: &mut Cursor<'_>) -> Result<Provider, Halt>
     ensures { Gives (read gram.provider_line cursor.old.place cursor.old.rest.now) result cursor.new.place cursor.new.rest.now }
 {
     let provider = provided(cursor)?;
-    cursor.sign(Sign::Semicolon)?;
-    Ok(provider)
+    match cursor.sign(Sign::Semicolon) {
+        Ok(()) => Ok(provider),
+        Err(halt) => {
+            drop(provider);
+            Err(halt)
+        }
+    }
 }
 
 /// A component's name, or a reference after `#`.

@@ -7,7 +7,7 @@ use ng_ast::Flag;
 use ng_tokens::same_text;
 
 /// What a declaration begins with.
-#[derive(Clone, Copy, Debug, PartialEq, Eq)]
+#[derive(Clone, Copy)]
 pub enum DeclWord {
     Component,
     Service,
@@ -18,7 +18,7 @@ pub enum DeclWord {
 }
 
 /// What a member begins with.
-#[derive(Clone, Copy, Debug, PartialEq, Eq)]
+#[derive(Clone, Copy)]
 pub enum MemberWord {
     Field,
     Signal,
@@ -38,7 +38,7 @@ pub enum MemberWord {
 }
 
 /// What members belong to.
-#[derive(Clone, Copy, Debug, PartialEq, Eq)]
+#[derive(Clone, Copy)]
 pub enum Scope {
     Service,
     Component,

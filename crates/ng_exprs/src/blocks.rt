@@ -105,7 +105,11 @@ impl<F: Fn(Global, &mut Tokens, usize) -> Result<Items<Stmt>, Halt>> Blocks<F> {
             return self.conditional(tokens, place);
         }
         let found = simple(self.alloc, tokens, self.depth)?;
-        tokens.expect(Sign::Semicolon)?;
+        if let Err(halt) = tokens.expect(Sign::Semicolon) {
+            // by a call, which is proved once
+            drop(found);
+            return Err(halt);
+        }
         Ok(found)
     }
 

@@ -73,10 +73,13 @@ fn read_tokens(alloc: Global, tokens: &mut Tokens) -> Result<Expr, Halt>
         Ok(found) => found,
         Err(halt) => return Err(halt),
     };
+    // what is given up is dropped by a call, which is proved once
     if tokens.len() > 0 {
+        drop(found);
         return Err(Halt::Syntax(tokens.at()));
     }
     if count > MAX_TOKENS {
+        drop(found);
         return Err(Halt::Limit(place));
     }
     Ok(found)
@@ -122,6 +125,3 @@ pub fn one_tree()
 pub fn one_reading()
     ensures { (comments : Bool) (base : Place) (t : List ℕ) (a b : Expr) → ReadsExpr comments base t a → ReadsExpr comments base t b → a ≡ b }
 {}
-
-#[cfg(test)]
-mod tests;

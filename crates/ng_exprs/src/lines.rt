@@ -30,6 +30,8 @@ fn measured(alloc: Global, tokens: &mut Tokens, depth: usize) -> Result<Expr, Ha
     let before = tokens.len();
     let found = whole(alloc, tokens, depth + 1)?;
     if before.saturating_sub(tokens.len()) > MAX_TOKENS {
+        // by a call, which is proved once
+        drop(found);
         return Err(Halt::Limit(place));
     }
     Ok(found)

@@ -107,17 +107,6 @@ fn binary(alloc: Global, place: Place, op: Binary, a: Expr, b: Expr) -> Result<E
     Ok(Expr::Binary(place, op, Boxed::new(alloc, a)?, Boxed::new(alloc, b)?))
 }
 
-fn choice(alloc: Global, place: Place, c: Expr, a: Expr, b: Expr) -> Result<Expr, AllocError>
-    ensures { IfOk result (λ e. e ≡ Expr.Choose place c a b) }
-{
-    Ok(Expr::Choose(
-        place,
-        Boxed::new(alloc, c)?,
-        Boxed::new(alloc, a)?,
-        Boxed::new(alloc, b)?,
-    ))
-}
-
 /// The rules at a place where some brackets are open.
 #[derive(Clone, Copy)]
 pub struct Rules<F> {
@@ -217,7 +206,11 @@ impl<F: Fn(Global, &mut Tokens, usize) -> Result<Expr, Halt>> Rules<F> {
         ensures { Gives (spec.group (spec.brackets spec.turns self.now.depth) place tokens.old) result tokens.new }
     {
         let inner = self.within(tokens)?;
-        tokens.expect(Sign::CloseRound)?;
+        if let Err(halt) = tokens.expect(Sign::CloseRound) {
+            // by a call, which is proved once
+            drop(inner);
+            return Err(halt);
+        }
         Ok(Expr::Group(place, Boxed::new(self.alloc, inner)?))
     }
 
@@ -263,16 +256,18 @@ impl<F: Fn(Global, &mut Tokens, usize) -> Result<Expr, Halt>> Rules<F> {
     fn member(&self, tokens: &mut Tokens, place: Place, owner: Expr) -> Result<Expr, Halt>
         ensures { Gives (spec.member (spec.brackets spec.turns self.now.depth) place owner tokens.old) result tokens.new }
     {
+        let owner = Boxed::new(self.alloc, owner)?;
         let name = tokens.name()?;
-        Ok(Expr::Member(place, Boxed::new(self.alloc, owner)?, name))
+        Ok(Expr::Member(place, owner, name))
     }
 
     #[tactic(auto, unfolding(crate::specs::Parse::safe))]
     fn safe(&self, tokens: &mut Tokens, place: Place, owner: Expr) -> Result<Expr, Halt>
         ensures { Gives (spec.safe (spec.brackets spec.turns self.now.depth) place owner tokens.old) result tokens.new }
     {
+        let owner = Boxed::new(self.alloc, owner)?;
         let name = tokens.name()?;
-        Ok(Expr::Safe(place, Boxed::new(self.alloc, owner)?, name))
+        Ok(Expr::Safe(place, owner, name))
     }
 
     #[tactic(auto, unfolding(crate::specs::Parse::index))]
@@ -280,13 +275,10 @@ impl<F: Fn(Global, &mut Tokens, usize) -> Result<Expr, Halt>> Rules<F> {
         requires { Nests self.now.depth (F.pre self.now.whole) (F.post self.now.whole) }
         ensures { Gives (spec.index (spec.brackets spec.turns self.now.depth) place owner tokens.old) result tokens.new }
     {
-        let at = self.within(tokens)?;
+        let owner = Boxed::new(self.alloc, owner)?;
+        let at = Boxed::new(self.alloc, self.within(tokens)?)?;
         tokens.expect(Sign::CloseSquare)?;
-        Ok(Expr::Index(
-            place,
-            Boxed::new(self.alloc, owner)?,
-            Boxed::new(self.alloc, at)?,
-        ))
+        Ok(Expr::Index(place, owner, at))
     }
 
     #[tactic(auto, unfolding(crate::specs::Parse::call))]
@@ -294,8 +286,9 @@ impl<F: Fn(Global, &mut Tokens, usize) -> Result<Expr, Halt>> Rules<F> {
         requires { Nests self.now.depth (F.pre self.now.whole) (F.post self.now.whole) }
         ensures { Gives (spec.call (spec.brackets spec.turns self.now.depth) place callee tokens.old) result tokens.new }
     {
+        let callee = Boxed::new(self.alloc, callee)?;
         let args = self.all_of(tokens, Sign::CloseRound)?;
-        Ok(Expr::Call(place, Boxed::new(self.alloc, callee)?, args))
+        Ok(Expr::Call(place, callee, args))
     }
 
     /// What follows an operand; `named` says that it ends in a name, so that a call may follow.
@@ -400,10 +393,13 @@ impl<F: Fn(Global, &mut Tokens, usize) -> Result<Expr, Halt>> Rules<F> {
             return Ok(test);
         }
         tokens.skip();
+        let test = Boxed::new(self.alloc, test)?;
         let yes = self.chosen(tokens, turns - 1)?;
+        let yes = Boxed::new(self.alloc, yes)?;
         tokens.expect(Sign::Colon)?;
         let no = self.chosen(tokens, turns - 1)?;
-        Ok(choice(self.alloc, place, test, yes, no)?)
+        let no = Boxed::new(self.alloc, no)?;
+        Ok(Expr::Choose(place, test, yes, no))
     }
 
     fn arguments(&self, tokens: &mut Tokens, turns: usize) -> Result<Items<Expr>, Halt>
@@ -426,9 +422,10 @@ impl<F: Fn(Global, &mut Tokens, usize) -> Result<Expr, Halt>> Rules<F> {
         requires { Nests self.now.depth (F.pre self.now.whole) (F.post self.now.whole) }
         ensures { Gives (spec.pipe (spec.brackets spec.turns self.now.depth) place value tokens.old) result tokens.new }
     {
+        let value = Boxed::new(self.alloc, value)?;
         let name = tokens.name()?;
         let arguments = self.arguments(tokens, TURNS)?;
-        Ok(Expr::Pipe(place, Boxed::new(self.alloc, value)?, name, arguments))
+        Ok(Expr::Pipe(place, value, name, arguments))
     }
 
     fn pipes(

@@ -6,6 +6,3 @@ mod getters;
 mod judge;
 
 pub use judge::{judge_cycles, one_list_of_cycle_breaks};
-
-#[cfg(test)]
-mod tests;

@@ -1,5 +1,5 @@
 -- Heads of blocks: what a head's word and its brackets make of it.
-use Rattle.std.proofs.Common.{◌≡◌, ℕ, take, [], ◌∷◌, ◌++◌, codes, refl, sym, ◌∙◌, ap, subst, append_assoc, arith}
+use Rattle.std.proofs.Common.{◌≡◌, ℕ, take, [], ◌∷◌, ◌++◌, codes, refl, sym, ◌∙◌, ap, subst, append_assoc}
 use Rattle.std.proofs.lemmas.List.{append-nil}
 use Rattle.std.specs.Prelude.{Bool, true, false, Option, Some, None, Result, Ok, Err, MatchBool, MatchOption}
 use Rattle.ng_ast.specs.declared.Place.{Place}
@@ -27,7 +27,7 @@ use Rattle.ng_heads.specs.Closes.{ClosedAt, NotClosed}
 use Rattle.ng_heads.specs.Brackets.{InBrackets, NoBrackets}
 use Rattle.ng_heads.specs.Blocks.{AnswersAfter, AnswersElseIf, IsBrace, AtIf, NoIf}
 use Rattle.ng_heads.specs.Steps.{Past, Skips}
-use Rattle.ng_heads.proofs.Texts.{both_true, not_both, same_front, same_is, steps_append}
+use Rattle.ng_heads.proofs.Texts.{apart, both_true, not_both, same_front, same_is, steps_append}
 use Rattle.ng_heads.proofs.Names.{gap_blank}
 use Rattle.ng_heads.proofs.PartFronts.{else_tail, way, way_of, way_of_shape, written_way, heavy_way, else_apart, same_else, one_bracket, bracket_heavy, else_heavy, for_heavy}
 use Rattle.ng_heads.proofs.TestLaws.{word_left, blank_left}
@@ -122,23 +122,23 @@ module _ {A : Type 0} (p : Place) (word : Text) (at : At) (here : at.place ≡ s
 
 shape_if : (o : Shape) → way_of_shape o ≡ 1 → o ≡ s.If
 shape_if s.If e = refl
-shape_if _ e = absurd (omega arith)
+shape_if _ e = absurd (apart e refl)
 
 shape_else_if : (o : Shape) → way_of_shape o ≡ 2 → o ≡ s.ElseIf
 shape_else_if s.ElseIf e = refl
-shape_else_if _ e = absurd (omega arith)
+shape_else_if _ e = absurd (apart e refl)
 
 shape_for : (o : Shape) → way_of_shape o ≡ 3 → o ≡ s.For
 shape_for s.For e = refl
-shape_for _ e = absurd (omega arith)
+shape_for _ e = absurd (apart e refl)
 
 shape_switch : (o : Shape) → way_of_shape o ≡ 5 → o ≡ s.Switch
 shape_switch s.Switch e = refl
-shape_switch _ e = absurd (omega arith)
+shape_switch _ e = absurd (apart e refl)
 
 shape_case : (o : Shape) → way_of_shape o ≡ 6 → o ≡ s.Case
 shape_case s.Case e = refl
-shape_case _ e = absurd (omega arith)
+shape_case _ e = absurd (apart e refl)
 
 abbrev Test : Type 0
 Test = Expr × Option Text
@@ -154,7 +154,7 @@ module _ (p : Place) (at : At) (here : at.place ≡ steps p (codes "@if")) where
     where
       by : (c : Markup) → way_of c ≡ 1 → IsWritten p (codes "@if" ++ at.text.now) c → (v : Test) × (q : Place) × (x : Text) × Bracketed p (codes "@if") (codes "@if" ++ at.text.now) q x × reads_test q x v
       by (m.If e n) i (q, x, b, reads) = ((e, n), q, x, b, reads)
-      by _ i j = absurd (omega arith)
+      by _ i j = absurd (apart i refl)
 
   into_if : (w x : Text) → IsBlank w → OverFront (steps p (codes "@if" ++ (w ++ (40 ∷ [])))) x → IsHeavy p (codes "@if" ++ (w ++ (40 ∷ x))) s.If
   into_if w x blank over = (w, x, refl, blank, over)
@@ -183,7 +183,7 @@ module _ (p : Place) (word : Text) (is : IsElseIf word) (at : At) (here : at.pla
       by : (c : Markup) → way_of c ≡ 2 → IsWritten p (word ++ at.text.now) c → (v : Test) × (q : Place) × (x : Text) × Bracketed p word (word ++ at.text.now) q x × reads_test q x v
       by (m.ElseIf e n) i (other, q, x, also, b, reads) = ((e, n), q, x, subst (λ k. Bracketed p k (word ++ at.text.now) q x) (sym (same_else word other at.text.now _ is also b.is)) b, reads)
       by m.Else i j = absurd (else_apart (word ++ at.text.now) word at.text.now j is [] (append-nil (word ++ at.text.now)))
-      by _ i j = absurd (omega arith)
+      by _ i j = absurd (apart i refl)
 
   into_else_if : (w x : Text) → IsBlank w → OverFront (steps p (word ++ (w ++ (40 ∷ [])))) x → IsHeavy p (word ++ (w ++ (40 ∷ x))) s.ElseIf
   into_else_if w x blank over = (word, is, (w, x, refl, blank, over))
@@ -211,7 +211,7 @@ module _ (p : Place) (at : At) (here : at.place ≡ steps p (codes "@for")) wher
     where
       by : (c : Markup) → way_of c ≡ 3 → IsWritten p (codes "@for" ++ at.text.now) c → (v : ForHead) × (q : Place) × (x : Text) × Bracketed p (codes "@for") (codes "@for" ++ at.text.now) q x × ReadsFor q x v
       by (m.For head) i (q, x, b, reads) = (head, q, x, b, reads)
-      by _ i j = absurd (omega arith)
+      by _ i j = absurd (apart i refl)
 
   into_for : (w x : Text) → IsBlank w → OverFor (steps p (codes "@for" ++ (w ++ (40 ∷ [])))) x → IsHeavy p (codes "@for" ++ (w ++ (40 ∷ x))) s.For
   into_for w x blank over = (w, x, refl, blank, over)
@@ -236,7 +236,7 @@ module _ (p : Place) (at : At) (here : at.place ≡ steps p (codes "@switch")) w
     where
       by : (c : Markup) → way_of c ≡ 5 → IsWritten p (codes "@switch" ++ at.text.now) c → (v : Expr) × (q : Place) × (x : Text) × Bracketed p (codes "@switch") (codes "@switch" ++ at.text.now) q x × ReadsExpr false q x v
       by (m.Switch e) i (q, x, b, reads) = (e, q, x, b, reads)
-      by _ i j = absurd (omega arith)
+      by _ i j = absurd (apart i refl)
 
   into_switch : (w x : Text) → IsBlank w → OverFront (steps p (codes "@switch" ++ (w ++ (40 ∷ [])))) x → IsHeavy p (codes "@switch" ++ (w ++ (40 ∷ x))) s.Switch
   into_switch w x blank over = (w, x, refl, blank, over)
@@ -261,7 +261,7 @@ module _ (p : Place) (at : At) (here : at.place ≡ steps p (codes "@case")) whe
     where
       by : (c : Markup) → way_of c ≡ 6 → IsWritten p (codes "@case" ++ at.text.now) c → (v : Expr) × (q : Place) × (x : Text) × Bracketed p (codes "@case") (codes "@case" ++ at.text.now) q x × ReadsExpr false q x v
       by (m.Case e) i (q, x, b, reads) = (e, q, x, b, reads)
-      by _ i j = absurd (omega arith)
+      by _ i j = absurd (apart i refl)
 
   into_case : (w x : Text) → IsBlank w → OverFront (steps p (codes "@case" ++ (w ++ (40 ∷ [])))) x → IsHeavy p (codes "@case" ++ (w ++ (40 ∷ x))) s.Case
   into_case w x blank over = (w, x, refl, blank, over)
@@ -285,8 +285,8 @@ module _ (p : Place) (at : At) where
   empty_read (w, blank, is) = (refl, (w, blank, ap (λ t. codes "@empty" ++ t) is), quiet)
     where
       none : (o : Shape) → way_of_shape o ≡ 4 → ⊥
-      none s.If e = omega arith
-      none _ e = omega arith
+      none s.If e = apart e refl
+      none _ e = apart e refl
 
       quiet : IsCalm p (codes "@empty" ++ at.text.now)
       quiet z other j = none other (heavy_only p (codes "@empty" ++ at.text.now) z 4 other refl j)
@@ -296,7 +296,7 @@ module _ (p : Place) (at : At) where
     where
       by : (c : Markup) → way_of c ≡ 4 → IsWritten p (codes "@empty" ++ at.text.now) c → ⊥
       by m.Empty i (v, blank, is) = none (v, blank, (same_front (codes "@empty") (codes "@empty") at.text.now (v ++ (123 ∷ [])) is refl).1)
-      by _ i j = absurd (omega arith)
+      by _ i j = absurd (apart i refl)
 
 -- ---- @default
 
@@ -305,8 +305,8 @@ module _ (p : Place) (at : At) where
   default_read (w, blank, is) = (refl, (w, blank, ap (λ t. codes "@default" ++ t) is), quiet)
     where
       none : (o : Shape) → way_of_shape o ≡ 7 → ⊥
-      none s.If e = omega arith
-      none _ e = omega arith
+      none s.If e = apart e refl
+      none _ e = apart e refl
 
       quiet : IsCalm p (codes "@default" ++ at.text.now)
       quiet z other j = none other (heavy_only p (codes "@default" ++ at.text.now) z 7 other refl j)
@@ -316,7 +316,7 @@ module _ (p : Place) (at : At) where
     where
       by : (c : Markup) → way_of c ≡ 7 → IsWritten p (codes "@default" ++ at.text.now) c → ⊥
       by m.Default i (v, blank, is) = none (v, blank, (same_front (codes "@default") (codes "@default") at.text.now (v ++ (123 ∷ [])) is refl).1)
-      by _ i j = absurd (omega arith)
+      by _ i j = absurd (apart i refl)
 
 -- ---- @else
 
@@ -329,7 +329,7 @@ module _ (p : Place) (at : At) where
 
       none : (z : Text) (o : Shape) → way_of_shape o ≡ 2 → IsHeavy p ((codes "@else" ++ at.text.now) ++ z) o → ⊥
       none z s.ElseIf e (word, also, (u, x, same, white, over)) = else_apart (codes "@else" ++ at.text.now) word (u ++ (40 ∷ x)) braced also z same
-      none z _ e j = absurd (omega arith)
+      none z _ e j = apart e refl
 
       quiet : IsCalm p (codes "@else" ++ at.text.now)
       quiet z other j = none z other (heavy_only p (codes "@else" ++ at.text.now) z 2 other refl j) j
@@ -341,7 +341,7 @@ module _ (p : Place) (at : At) where
       by m.Else i (v, blank, is) = none (v, blank, (same_front (codes "@else") (codes "@else") at.text.now (v ++ (123 ∷ [])) is refl).1)
       by (m.ElseIf e n) i (word, x, y, (v, gap, is), b, reads) =
           no_if v _ gap (else_tail (b.is ∙ ap (λ k. k ++ (b.before_round ++ (40 ∷ (y ++ (41 ∷ (b.before_brace ++ (123 ∷ []))))))) is ∙ ap (λ k. codes "@else" ++ k) (append_assoc v (codes "if") _)))
-      by _ i j = absurd (omega arith)
+      by _ i j = absurd (apart i refl)
 
   -- a head with `@else if` by its text after `@else`
   pub else_if_answers : (rest : At) (r : Result Markup Halt) → at.place ≡ steps p (codes "@else") → AtIf at rest → AnswersElseIf rest r → Answers kind.Head p (codes "@else" ++ at.text.now) r

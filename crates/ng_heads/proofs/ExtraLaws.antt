@@ -7,7 +7,6 @@ use Rattle.ng_ast.specs.declared.ForHead.{ForHead}
 use Rattle.ng_tokens.specs.Lexis.{Text, is_blank, is_word, same_text, begins, steps}
 use Rattle.ng_exprs.specs.Reading.{ReadsExpr, OverText}
 use Rattle.ng_exprs.specs.Ends.{IsEnd}
-use Rattle.ng_exprs.proofs.Closing.{ends}
 use Rattle.ng_lex.specs.Words.{EndsWord, at_front}
 use Rattle.ng_lex.specs.Attributes.{differs}
 use Rattle.ng_lex.specs.Heads.{IsLetPart, ReadsPairs, ReadsParts, IsRow, ReadsFor, EndsAfter, OverFront, OverParts, OverFor}
@@ -536,8 +535,8 @@ module _ (at name rest : At) (row : Fors.AtRow at name rest) where
             by : IsRow row.a name.text.now rest.text.now → IsRow row.a name.text.now (k.x ++ s)
             by (w, v, is_, blank, gap, named, ends_) = (w, v, is_, blank, gap, named, word k.x s (ap (at_front is_word) (sym (k.is ∙ ap (λ r. k.x ++ r) (sym k.left ∙ f))) ∙ ends_))
 
-    row_is : (extras : Extras) (r v : Text) → r ≡ v → ◌≡◌ {A = ForHead} (record { row = r; list = e; track = extras.track; vars = extras.vars }) (record { row = v; list = e; track = extras.track; vars = extras.vars })
-    row_is extras r v same = ap (λ (k : Text). let x : ForHead = record { row = k; list = e; track = extras.track; vars = extras.vars } in x) same
-
-    pub for_all : (extras : Extras) (r : Text) → r ≡ name.text.now → Fors.AnswersExtras next (Ok extras) → Fors.AnswersFor at (Ok (record { row = r; list = e; track = extras.track; vars = extras.vars }))
-    for_all extras r same h = for_read extras (record { row = r; list = e; track = extras.track; vars = extras.vars }) (row_is extras r name.text.now same) h
+    pub for_all : (extras : Extras) (r : Result ForHead Stop) → Fors.WithRow name.text.now e extras r → Fors.AnswersExtras next (Ok extras) → Fors.AnswersFor at r
+    for_all extras (Ok head) same h = for_read extras head same h
+    for_all extras (Err (stop.Syntax q)) none h = absurd none
+    for_all extras (Err stop.Limit) none h = absurd none
+    for_all extras (Err stop.Memory) none h = λ x is. tt

@@ -6,7 +6,7 @@ use Rattle.std.specs.Str.{IsUtf8, IsCharBoundary}
 use Rattle.std.specs.Prelude.{true, false, Result, Ok, Err}
 use Rattle.ng_ast.specs.declared.Place.{Place}
 use Rattle.ng_ast.specs.declared.Expr.{Expr}
-use Rattle.ng_tokens.specs.Lexis.{Text, is_blank, is_letter, is_word, same_text, begins, all, steps}
+use Rattle.ng_tokens.specs.Lexis.{Text, is_blank, is_letter, is_word, same_text, begins, steps}
 use Rattle.ng_exprs.specs.Reading.{ReadsExpr, OverText}
 use Rattle.ng_lex.specs.declared.kinds.TokenKind.TheVariants as kind
 use Rattle.ng_lex.specs.declared.markup.Markup.{Markup}
@@ -28,7 +28,7 @@ use Rattle.ng_heads.specs.Answers.{IsCalm, Answers, Turns}
 use Rattle.ng_heads.specs.Fronts.{ReadFront, AnswersFront, AnswersExpr}
 use Rattle.ng_heads.specs.Lets.{AtLetFront, NoLetFront}
 use Rattle.ng_heads.specs.Steps.{Past, Skips, Splits}
-use Rattle.ng_heads.proofs.Texts.{utf8_before, utf8_from, utf8_tail, not_both, same_front, same_is, steps_append}
+use Rattle.ng_heads.proofs.Texts.{apart, utf8_before, utf8_from, utf8_tail, not_both, same_front, same_is, steps_append}
 use Rattle.ng_heads.proofs.Names.{gap_blank, name_letter, name_no_blank, first_once}
 use Rattle.ng_heads.proofs.PartFronts.{way, way_of_shape, heavy_way, one_let_front, let_heavy, interpolation_heavy, opening_tail, equals_stops}
 use Rattle.ng_heads.proofs.Cursor.{no_word}
@@ -110,7 +110,7 @@ let_way x n t (w, v, is, gap, blank, name) = ap (λ k. way (k ++ t)) is
 
 shape_let : (o : Shape) → way_of_shape o ≡ 8 → o ≡ s.Let
 shape_let s.Let e = refl
-shape_let _ e = absurd (omega arith)
+shape_let _ e = absurd (apart e refl)
 
 module _ (at name rest : At) (front : AtLetFront at name rest) where
   -- the front of another reading
@@ -176,7 +176,7 @@ interpolation_kind p a (m.Heavy shape) i w = absurd w
 
 shape_interpolation : (o : Shape) → way_of_shape o ≡ 10 → o ≡ s.Interpolation
 shape_interpolation s.Interpolation e = refl
-shape_interpolation _ e = absurd (omega arith)
+shape_interpolation _ e = absurd (apart e refl)
 
 -- a text that is an interpolation, and what stands in it
 module _ (p : Place) (a : Text) (token : IsSpan kind.Interpolation a []) (q : Place) (u : Text) (place : q ≡ steps p opening) (text : u ≡ token.0) where

@@ -1,5 +1,5 @@
 -- The clauses of the readers of heads, `@let` and interpolations.
-use Rattle.std.proofs.Common.{◌≡◌, [], ◌∷◌, ◌++◌, codes, refl, sym, ◌∙◌, ap, subst, arith}
+use Rattle.std.proofs.Common.{◌≡◌, [], ◌∷◌, ◌++◌, codes, refl, sym, ◌∙◌, ap, subst}
 use Rattle.std.proofs.lemmas.List.{append-nil}
 use Rattle.std.specs.Prelude.{false, Option, Result, Ok, Err, IfOk, IfErr}
 use Rattle.ng_ast.specs.declared.Place.{Place}
@@ -20,6 +20,7 @@ use Rattle.ng_lex.specs.Spans.{kind_of}
 use Rattle.ng_heads.specs.declared.halt.Halt.{Halt}
 use Rattle.ng_heads.specs.declared.halt.Halt.TheVariants as h
 use Rattle.ng_heads.specs.Answers.{IsCalm, Says, Refuses, IsOrMemory, Answers}
+use Rattle.ng_heads.proofs.Texts.{apart}
 use Rattle.ng_heads.proofs.Names.{first_once}
 use Rattle.ng_heads.proofs.HeadLaws.{expr_then, one_test, semicolon_ends}
 use Rattle.ng_heads.proofs.ForLaws.{one_for}
@@ -43,13 +44,13 @@ module _ (p : Place) (a : Text) where
       let inner : t ++ closing ≡ x ++ closing = opening_tail (sym is ∙ same) in
       let g : t ≡ x = first_once literal closing Outside t x [] [] inner first.1 first.0 other.1 other.0 in
       ap m.Interpolation (text_reads_one false (steps p opening) t e d reads (subst (λ v. ReadsExpr false (steps p opening) v d) (sym g) also))
-  one_interpolation e _ n h i = absurd (omega arith)
+  one_interpolation e _ n h i = absurd (apart n refl)
 
   one_if : (e : Expr) (k : Option Text) (c : Markup) → 1 ≡ way_of c → IsWritten p a (m.If e k) → IsWritten p a c → m.If e k ≡ c
   one_if e k (m.If d j) n (q, x, b, reads) (r, y, s, also) =
       let g = one_bracket p q r (codes "@if") a x y b s in
       test_is m.If e d k j (one_test q x e d k j reads (subst (λ v. ReadsTest v x d j) (sym g.0) (subst (λ v. ReadsTest r v d j) (sym g.1) also)))
-  one_if e k _ n h i = absurd (omega arith)
+  one_if e k _ n h i = absurd (apart n refl)
 
   one_else_if : (e : Expr) (k : Option Text) (c : Markup) → 2 ≡ way_of c → IsWritten p a (m.ElseIf e k) → IsWritten p a c → m.ElseIf e k ≡ c
   one_else_if e k (m.ElseIf d j) n (word, q, x, is, b, reads) (other, r, y, also, s, more) =
@@ -57,38 +58,38 @@ module _ (p : Place) (a : Text) where
       let g = one_bracket p q r word a x y b (subst (λ v. Bracketed p v a r y) w s) in
       test_is m.ElseIf e d k j (one_test q x e d k j reads (subst (λ v. ReadsTest v x d j) (sym g.0) (subst (λ v. ReadsTest r v d j) (sym g.1) more)))
   one_else_if e k m.Else n (word, q, x, is, b, reads) h = absurd (else_apart a word _ h is [] (append-nil a ∙ b.is))
-  one_else_if e k _ n h i = absurd (omega arith)
+  one_else_if e k _ n h i = absurd (apart n refl)
 
   one_else : (c : Markup) → 2 ≡ way_of c → IsWritten p a m.Else → IsWritten p a c → m.Else ≡ c
   one_else m.Else n h i = refl
   one_else (m.ElseIf d j) n h (word, q, x, is, b, reads) = absurd (else_apart a word _ h is [] (append-nil a ∙ b.is))
-  one_else _ n h i = absurd (omega arith)
+  one_else _ n h i = absurd (apart n refl)
 
   one_for_head : (head : ForHead) (c : Markup) → 3 ≡ way_of c → IsWritten p a (m.For head) → IsWritten p a c → m.For head ≡ c
   one_for_head head (m.For other) n (q, x, b, reads) (r, y, s, also) =
       let g = one_bracket p q r (codes "@for") a x y b s in
       ap m.For (one_for q x head other reads (subst (λ v. ReadsFor v x other) (sym g.0) (subst (λ v. ReadsFor r v other) (sym g.1) also)))
-  one_for_head head _ n h i = absurd (omega arith)
+  one_for_head head _ n h i = absurd (apart n refl)
 
   one_empty : (c : Markup) → 4 ≡ way_of c → m.Empty ≡ c
   one_empty m.Empty n = refl
-  one_empty _ n = absurd (omega arith)
+  one_empty _ n = absurd (apart n refl)
 
   one_switch : (e : Expr) (c : Markup) → 5 ≡ way_of c → IsWritten p a (m.Switch e) → IsWritten p a c → m.Switch e ≡ c
   one_switch e (m.Switch d) n (q, x, b, reads) (r, y, s, also) =
       let g = one_bracket p q r (codes "@switch") a x y b s in
       ap m.Switch (text_reads_one false q x e d reads (subst (λ v. ReadsExpr false v x d) (sym g.0) (subst (λ v. ReadsExpr false r v d) (sym g.1) also)))
-  one_switch e _ n h i = absurd (omega arith)
+  one_switch e _ n h i = absurd (apart n refl)
 
   one_case : (e : Expr) (c : Markup) → 6 ≡ way_of c → IsWritten p a (m.Case e) → IsWritten p a c → m.Case e ≡ c
   one_case e (m.Case d) n (q, x, b, reads) (r, y, s, also) =
       let g = one_bracket p q r (codes "@case") a x y b s in
       ap m.Case (text_reads_one false q x e d reads (subst (λ v. ReadsExpr false v x d) (sym g.0) (subst (λ v. ReadsExpr false r v d) (sym g.1) also)))
-  one_case e _ n h i = absurd (omega arith)
+  one_case e _ n h i = absurd (apart n refl)
 
   one_default : (c : Markup) → 7 ≡ way_of c → m.Default ≡ c
   one_default m.Default n = refl
-  one_default _ n = absurd (omega arith)
+  one_default _ n = absurd (apart n refl)
 
   one_let : (k : Text) (e : Expr) (c : Markup) → 8 ≡ way_of c → IsWritten p a (m.Let k e) → IsWritten p a c → m.Let k e ≡ c
   one_let k e (m.Let j d) n (x, t, is, front, reads) (y, s, same, ahead, also) =
@@ -96,7 +97,7 @@ module _ (p : Place) (a : Text) where
       let g = expr_then (steps p x) (steps p y) t s (59 ∷ []) (59 ∷ []) e d reads also (semicolon_ends []) (semicolon_ends []) f.2 in
       let moved : ReadsExpr false (steps p x) t d = subst (λ v. ReadsExpr false (steps p v) t d) (sym f.0) (subst (λ v. ReadsExpr false (steps p y) v d) (sym g.0) also) in
       ap (λ v. m.Let v e) f.1 ∙ ap (m.Let j) (text_reads_one false (steps p x) t e d reads moved)
-  one_let k e _ n h i = absurd (omega arith)
+  one_let k e _ n h i = absurd (apart n refl)
 
   by_way : (c d : Markup) → way_of c ≡ way_of d → IsRead (kind_of c) → IsWritten p a c → IsWritten p a d → c ≡ d
   by_way (m.Interpolation e) d n r h i = one_interpolation e d n h i

@@ -12,7 +12,7 @@ use Rattle.ng_heads.specs.declared.halt.Stop.{Stop}
 use Rattle.ng_heads.specs.declared.halt.Stop.TheVariants as stop
 use Rattle.ng_heads.specs.Fronts.{ReadFront, AnswersFront}
 use Rattle.ng_heads.specs.Steps.{Past, Skips, Splits}
-use Rattle.ng_heads.specs.Tests.{Named, NotNamed, AnswersTest, AnswersAlone}
+use Rattle.ng_heads.specs.Tests.{Named, NotNamed, AnswersName, AnswersTest, AnswersAlone}
 use Rattle.ng_heads.proofs.Texts.{not_both, no_true, same_front, same_runs, same_is}
 use Rattle.ng_heads.proofs.Names.{name_words, name_letter, name_no_blank, blank_ends}
 use Rattle.ng_heads.proofs.Closing.{last_same}
@@ -167,6 +167,16 @@ test_unread at rest e q k none unnamed x is (d, None) reads = none (read_same at
 test_unread at rest e q k none unnamed x is (d, Some n) (t, u, same, reads, named_) =
     let left = (read_same at rest e d k at.place t (u ++ (41 ∷ [])) 59 (split_is at x t u is same) (inr refl) reads).1 in
     unnamed n (record { u = u; is = left; named = named_ })
+
+-- a test by what stands behind its expression
+pub test_read : (at rest : At) (e : Expr) (o : Option Text) → ReadFront at e rest → AnswersName rest (Ok o) → AnswersTest at (Ok (e, o))
+test_read at rest e None k end = test_alone at rest e k end
+test_read at rest e (Some n) k h = test_named at rest e n k h
+
+pub test_nameless : (at rest : At) (e : Expr) (s : Stop) → ReadFront at e rest → AnswersName rest (Err s) → AnswersTest at (Err s)
+test_nameless at rest e (stop.Syntax q) k none = test_unread at rest e q k none.0 none.1
+test_nameless at rest e stop.Limit k none = absurd none
+test_nameless at rest e stop.Memory k none = λ x is. tt
 
 pub test_stops : (at : At) (s : Stop) → AnswersFront at (Err s) → AnswersTest at (Err s)
 test_stops at (stop.Syntax q) h x is = unread_all

@@ -32,6 +32,10 @@ eq_self b = grind arith
 pub same_byte : (b c : ℕ) → (b == c) ≡ true → b ≡ c
 same_byte b c e = grind arith
 
+-- two numbers that a test tells apart
+pub apart : {b c : ℕ} → b ≡ c → (b == c) ≡ false → ⊥
+apart {c = c} e f = not_both (c == c) (eq_self c) (subst (λ k. (k == c) ≡ false) e f)
+
 -- ---- lists
 
 pub first_byte : {b c : ℕ} {x y : Text} → b ∷ x ≡ c ∷ y → b ≡ c

@@ -128,6 +128,12 @@ AnswersExtras at r = (x : Text) → at.text.now ≡ x ++ (41 ∷ []) → Reads (
 
 -- ---- all of the head
 
+-- the head with this row, list and extras, unless memory ran out
+abbrev pub WithRow : Text → Expr → Extras → Result ForHead Stop → Type 0
+WithRow row list extras (Ok head) = head ≡ record { row = row; list = list; track = extras.track; vars = extras.vars }
+WithRow row list extras (Err stop.Memory) = Unit {0}
+WithRow row list extras (Err _) = ⊥
+
 -- what the brackets of a `@for` hold, with the one that closes them
 abbrev pub AnswersFor : At → Result ForHead Stop → Type 0
 AnswersFor at r = (x : Text) → at.text.now ≡ x ++ (41 ∷ []) → Reads (ReadsFor at.place x) (λ z. OverFor at.place (at.text.now ++ z)) r

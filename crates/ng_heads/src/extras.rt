@@ -11,6 +11,7 @@ use ng_ast::Expr;
 use ng_values::NgText;
 use sqlite_items::Items;
 use std::alloc::Global;
+use std::mem;
 
 /// What may stand behind the list: a track expression, and names for the row's variables.
 #[derive(Drop)]
@@ -42,7 +43,7 @@ fn part<'a>(alloc: Global, at: At<'a>, extras: &mut Extras) -> Result<At<'a>, St
     match next_track(at, extras.track.is_some()) {
         Some(inside) => match expr_at(alloc, inside) {
             Ok((track, rest)) => {
-                extras.track = Some(track);
+                drop(mem::replace(&mut extras.track, Some(track)));
                 Ok(rest)
             }
             Err(stop) => Err(stop),
@@ -64,9 +65,12 @@ pub(crate) fn read_extras(alloc: Global, at: At) -> Result<Extras, Stop>
         if rest.is(b")") {
             return Ok(extras);
         }
-        rest = match part(alloc, rest, &mut extras) {
-            Ok(next) => next,
-            Err(stop) => return Err(stop),
-        };
+        match part(alloc, rest, &mut extras) {
+            Ok(next) => rest = next,
+            Err(stop) => {
+                drop(extras);
+                return Err(stop);
+            }
+        }
     }
 }

@@ -1,13 +1,13 @@
 //! The head of a `@for`.
 
 ghost use Rattle.std.specs.Prelude.{◌≡◌, MatchOption};
-ghost use Rattle.ng_heads.specs.Fors.{AtRow, NoRow, AnswersFor};
+ghost use Rattle.ng_heads.specs.Fors.{AtRow, NoRow, WithRow, AnswersFor};
 
 use crate::at::At;
 use crate::exprs::expr_at;
 use crate::extras::{Extras, read_extras};
 use crate::halt::Stop;
-use ng_ast::ForHead;
+use ng_ast::{Expr, ForHead};
 use ng_values::NgText;
 use std::alloc::Global;
 
@@ -22,6 +22,28 @@ fn row(at: At) -> Option<(At, At)>
     Some((name, rest))
 }
 
+// The head with this row, list and extras.
+fn with_row(alloc: Global, name: &str, list: Expr, extras: Extras) -> Result<ForHead, Stop>
+    ensures { WithRow name.now list extras result }
+{
+    match NgText::new(alloc, name) {
+        Ok(row) => {
+            let Extras { track, vars } = extras;
+            Ok(ForHead {
+                row,
+                list,
+                track,
+                vars,
+            })
+        }
+        Err(_) => {
+            drop(list);
+            drop(extras);
+            Err(Stop::Memory)
+        }
+    }
+}
+
 /// What the brackets of a `@for` hold, up to the `)` at the end.
 pub(crate) fn read_for(alloc: Global, at: At) -> Result<ForHead, Stop>
     ensures { AnswersFor at.entry result }
@@ -29,19 +51,14 @@ pub(crate) fn read_for(alloc: Global, at: At) -> Result<ForHead, Stop>
     let Some((name, rest)) = row(at) else {
         return Err(Stop::Syntax(at.place));
     };
-    let (list, rest) = match expr_at(alloc, rest) {
-        Ok(found) => found,
-        Err(stop) => return Err(stop),
-    };
-    let Extras { track, vars } = match read_extras(alloc, rest) {
-        Ok(extras) => extras,
-        Err(stop) => return Err(stop),
-    };
-    let row = NgText::new(alloc, name.text)?;
-    Ok(ForHead {
-        row,
-        list,
-        track,
-        vars,
-    })
+    match expr_at(alloc, rest) {
+        Ok((list, rest)) => match read_extras(alloc, rest) {
+            Ok(extras) => with_row(alloc, name.text, list, extras),
+            Err(stop) => {
+                drop(list);
+                Err(stop)
+            }
+        },
+        Err(stop) => Err(stop),
+    }
 }

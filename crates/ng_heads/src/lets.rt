@@ -35,11 +35,15 @@ pub(crate) fn whole_let(alloc: Global, at: At) -> Result<Markup, Halt>
     match expr_at(alloc, rest) {
         Ok((value, end)) => {
             if !end.is(b";") {
+                drop(value);
                 return Err(Halt::Syntax(end.place));
             }
             match NgText::new(alloc, name.text) {
                 Ok(name) => Ok(Markup::Let(name, value)),
-                Err(_) => Err(Halt::Memory),
+                Err(_) => {
+                    drop(value);
+                    Err(Halt::Memory)
+                }
             }
         }
         Err(stop) => stop.turned(Shape::Let),

@@ -83,6 +83,3 @@ pub fn read_interpolation(alloc: Global, text: &str, place: Place) -> Result<Mar
 {
     interpolation(alloc, At { text, place })
 }
-
-#[cfg(test)]
-mod tests;

@@ -11,6 +11,3 @@ mod words;
 pub use components::components_of;
 pub use hosts::{change_of, host_positions, hosts_of, is_reserved};
 pub use index::{SelectorIndex, selector_index};
-
-#[cfg(test)]
-mod tests;

@@ -18,6 +18,3 @@ pub use letters::PlacedLetter;
 pub use markup::{Letter, Markup, Part, Shape};
 pub use quotes::Quoting;
 pub use spans::{span, tokens};
-
-#[cfg(test)]
-mod tests;

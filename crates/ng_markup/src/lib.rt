@@ -6,6 +6,3 @@ mod part;
 
 pub use laws::{heavy_parts_have_their_shape, one_part};
 pub use part::read_part;
-
-#[cfg(test)]
-mod tests;

@@ -26,6 +26,9 @@ use Rattle.ng_tree.specs.declared.Step.{Step}
 use Rattle.ng_tree.specs.declared.Step.TheVariants as step
 use Rattle.ng_tree.specs.declared.Item.{Item}
 use Rattle.ng_tree.specs.declared.Item.TheVariants as item
+use Rattle.ng_turns.specs.declared.Spot.{Spot}
+use Rattle.ng_turns.specs.declared.PassFault.{PassFault}
+use Rattle.ng_turns.specs.declared.PassFault.TheVariants.{InView}
 use Rattle.ng_meaning.specs.Steps.{Steps, ◌>>=◌, pure, fail, get, all}
 use Rattle.ng_meaning.specs.Levels.{whole}
 use Rattle.ng_meaning.specs.Lists.{Text, look, change_at}
@@ -33,23 +36,11 @@ use Rattle.ng_meaning.specs.Same.{same_value, same_path}
 use Rattle.ng_meaning.specs.World.{World, Read, value_or_null}
 use Rattle.ng_meaning.specs.Expressions.{Scope, Meaning, need, combined, mean, mean_value, interpolated, only, most_calls}
 use Rattle.ng_meaning.specs.Template.{Form, Element, Host, NgContent, NgContainer, NgTemplate, TextNode, If, For, Switch, Let, Nodes, node, Branches, no_branches, branch, Node, nodes_of, node_at, branch_name, attributes}
-use Rattle.ng_meaning.specs.Places.{Trail, Outline, Outlines, instance_at, node_site}
+use Rattle.ng_meaning.specs.Places.{Trail, path_of, Outline, Outlines, instance_at, node_site}
 use Rattle.ng_meaning.specs.Projection.{is_filled}
 use Rattle.ng_meaning.specs.Tree.{Row, NodeValue, BoundValues, TextValue, Choice, RowList, LetValue, OutletValue, NoValue, View}
 
 -- ---- a pass
-
--- where a fault is: a place, the component whose declaration holds it, and the path of the view in which the node of that place stands
-pub record Spot : Type 0 where
-  pub place : Place
-  pub component : Text
-  pub path : Trail
-
--- what ends a pass: a fault of the application, or a limit of the pass
-pub data PassFault : Type 0 where
-  InView : Fault → Spot → PassFault
-  TooManyNodes : Spot → PassFault
-  TooDeep : Spot → PassFault
 
 -- A pass so far: what the application holds, how many page nodes were made, the views and the instances that were visited, and the instances that
 -- were checked.
@@ -75,7 +66,7 @@ pub record Visit : Type 0 where
 
 -- a place in a view
 abbrev pub spot : Visit → Place → Spot
-spot v p = record { place = p; component = v.at.component.name; path = v.at.path }
+spot v p = record { place = p; component = v.at.component.name; path = path_of v.at.path }
 
 -- a fault with its spot
 abbrev pub at_spot : {A : Type 0} → Result A Fault → Spot → Result A PassFault

@@ -47,7 +47,9 @@ unfolding
     Rattle.ng_meaning.specs.Page.page Rattle.ng_meaning.specs.Page.outlets_met
     Rattle.ng_meaning.specs.Printing.html
     Rattle.ng_meaning.specs.Queries.outlet_order Rattle.ng_meaning.specs.Queries.all_live Rattle.ng_meaning.specs.Queries.found Rattle.ng_meaning.specs.Queries.instances
-    Rattle.ng_meaning.specs.Events.target Rattle.ng_meaning.specs.Events.handle
+    Rattle.ng_meaning.specs.Targets.event_way Rattle.ng_meaning.specs.Targets.target Rattle.ng_meaning.specs.Targets.way_listeners
+    Rattle.ng_meaning.specs.Events.handle
     Rattle.ng_meaning.specs.Runs.run_with
-    Rattle.ng_meaning.specs.Lines.lines
+    Rattle.ng_meaning.specs.Lines.lines Rattle.ng_meaning.specs.Generated.generated_lines
+    Rattle.ng_meaning.specs.Operations.live_node
 everything = tt

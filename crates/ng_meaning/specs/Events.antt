@@ -1,6 +1,6 @@
 -- What an event does to what an application holds.
-use Rattle.std.specs.Prelude.{ℕ, zero, suc, ◌+◌, Bool, true, false, nat_lt, if◌then◌else◌, List, [], ◌∷◌, ◌++◌, reverse, Option, Some, None, Result, Ok, Err, codes, bytes_eq, find, slice_get, unwrap_or}
-use Rattle.std.specs.List.{filter_map, flat_map}
+use Rattle.std.specs.Prelude.{ℕ, zero, suc, ◌+◌, Bool, true, false, not, ◌&&◌, nat_lt, if◌then◌else◌, List, [], ◌∷◌, ◌++◌, reverse, Option, Some, None, Result, Ok, Err, codes, unwrap_or}
+use Rattle.std.specs.List.{list_any}
 use Rattle.ng_values.specs.declared.value.Value.{Value}
 use Rattle.ng_values.specs.declared.value.Value.TheVariants as val
 use Rattle.ng_values.specs.declared.fault.Fault.{Fault}
@@ -15,92 +15,45 @@ use Rattle.ng_ast.specs.declared.Owner.{Owner}
 use Rattle.ng_ast.specs.declared.Owner.TheVariants as owner
 use Rattle.ng_ast.specs.declared.AttrForm.{AttrForm}
 use Rattle.ng_ast.specs.declared.AttrForm.TheVariants as form
-use Rattle.ng_ast.specs.declared.TAttr.{TAttr}
 use Rattle.ng_ast.specs.declared.Member.{Member}
 use Rattle.ng_ast.specs.declared.MemberKind.{MemberKind}
 use Rattle.ng_ast.specs.declared.MemberKind.TheVariants as kind
 use Rattle.ng_tree.specs.declared.Step.TheVariants as step
 use Rattle.ng_tree.specs.declared.NodeId.{NodeId}
-use Rattle.ng_tree.specs.declared.NodeId.TheVariants as id
 use Rattle.ng_tree.specs.declared.Site.{Site}
 use Rattle.ng_tree.specs.declared.Site.TheVariants as site
 use Rattle.ng_tree.specs.declared.Item.{Item}
 use Rattle.ng_tree.specs.declared.Item.TheVariants as item
-use Rattle.ng_tree.specs.declared.PNode.{PNode, out-PNode, size-PNode}
-use Rattle.ng_tree.specs.declared.PNode.TheOpen.{PNode-F}
+use Rattle.ng_turns.specs.declared.Event.{Event}
+use Rattle.ng_turns.specs.declared.Event.TheVariants as event
+use Rattle.ng_turns.specs.declared.Outcome.{Outcome}
+use Rattle.ng_turns.specs.declared.Outcome.TheVariants as outcome
 use Rattle.ng_meaning.specs.Steps.{Steps, ◌>>=◌, ◌>>◌, pure, fail, change, get, each, all}
 use Rattle.ng_meaning.specs.Levels.{whole}
 use Rattle.ng_meaning.specs.Lists.{Text, look}
-use Rattle.ng_meaning.specs.Declared.{member, initial, is_output}
-use Rattle.ng_meaning.specs.Same.{same_value}
+use Rattle.ng_meaning.specs.Declared.{member, initial}
+use Rattle.ng_meaning.specs.Same.{same_value, same_path}
 use Rattle.ng_meaning.specs.World.{World, Held, held, value_or_null, written}
 use Rattle.ng_meaning.specs.Expressions.{Scope, Meaning, mean, mean_value, item_index, own_name, bodies, most_calls}
-use Rattle.ng_meaning.specs.Template.{Form, Element, Host, Node, node_at, attributes}
+use Rattle.ng_meaning.specs.Template.{Form, Host, node_at, attributes}
 use Rattle.ng_meaning.specs.Places.{Trail, Outlines, instance_at, outlines}
 use Rattle.ng_meaning.specs.Init.{Setting}
 use Rattle.ng_meaning.specs.Injection.{resolved}
-use Rattle.ng_meaning.specs.Tree.{Tree, State, names_seen}
+use Rattle.ng_meaning.specs.Tree.{Marks, none_marked, either, Tree, State, names_seen}
 use Rattle.ng_meaning.specs.Queries.{found}
 use Rattle.ng_meaning.specs.Page.{page}
-
--- An event: on an element, with the event's name, the element's tag, which of the elements of that tag (from 1) and the value of `$event`; or a call of
--- a method on what a token gives, with its arguments.
-pub data Event : Type 0 where
-  On : Text → Text → ℕ → Value → Event
-  Call : Text → Text → List Value → Event
-
--- ---- the target
-
--- one level of a page, given the elements inside a node
-abbrev pub elements_layer : (PNode → List (Text × NodeId)) → PNode-F PNode → List (Text × NodeId)
-elements_layer inner (PNode-F.Element i tag attrs kids) = (tag, i) ∷ flat_map inner kids
-elements_layer inner (PNode-F.Host i tag attrs kids) = (tag, i) ∷ flat_map inner kids
-elements_layer inner (PNode-F.Text i t) = []
-
--- the elements and hosts of a page in document order, each with its tag
-abbrev pub elements : PNode → List (Text × NodeId)
-elements = whole out-PNode size-PNode [] elements_layer
-
--- the identity of an element of this tag
-abbrev pub of_tag : Text → Text × NodeId → Option NodeId
-of_tag tag e = if bytes_eq tag e.0 then Some e.1 else None
-
--- the nth item, from 1
-abbrev pub nth : {A : Type 0} → ℕ → List A → Option A
-nth zero found = None
-nth (suc n) found = slice_get found n
-
--- the node that an event names: the nth element of the tag on the page, if there is one
-unfoldable pub target : PNode → Text → ℕ → Option NodeId
-target shown tag n = nth n (filter_map (of_tag tag) (elements shown))
-
--- ---- listeners
-
--- whether an attribute listens for a name; `[(x)]` listens for `xChange`
-abbrev pub listens : Text → TAttr → AttrForm → Bool
-listens name a (form.Listener ss) = bytes_eq name a.name
-listens name a (form.Both y) = bytes_eq name (a.name ++ codes "Change")
-listens name a _ = false
-
--- the attribute that listens for a name
-abbrev pub listener : Text → List TAttr → Option TAttr
-listener name = find (λ a. listens name a a.form)
-
--- The attribute with which a node listens for an event. On a host a name that is an output there is no event.
-abbrev pub event_listener : Text → Form → Option TAttr
-event_listener name (Host c tag attrs nodes) = if is_output c.members name then None else listener name attrs
-event_listener name (Element tag attrs nodes) = listener name attrs
-event_listener name f = None
+use Rattle.ng_meaning.specs.Targets.{Listener, listener, with_attribute, event_way, way_listeners}
 
 -- ---- statements
 
--- What an event has done so far: what is held, how many statements and how many calls of getters and declared pipes were counted, and the instances
--- that were marked.
+-- What an event has done so far: what is held, how many statements and how many calls of getters and declared pipes were counted, the instances that
+-- were marked, and whether the event was stopped on its way.
 pub record Doing : Type 0 where
   pub world : World
   pub statements : ℕ
   pub calls : ℕ
-  pub marks : List Trail
+  pub marks : Marks
+  pub stopped : Bool
 
 -- a step of an event
 abbrev pub Act : Type 0 → Type 0
@@ -172,6 +125,23 @@ owned_name (Some h) name = owned_member (member name h.members)
 abbrev pub owner_of : Frame → Text → World → Owned
 owner_of f name world = elim (look name f.names) [ Some i ↦ Named | None ↦ owned_name (held world f.own) name ]
 
+-- The start of a listener marks the instance that declares it, that one's ancestors, and on a host the host's instance.
+abbrev pub marked_by : App → Listener → Marks
+marked_by app l = λ p. list_any (same_path p) (with_ancestors (unit_of (outlines app l.path)) ++ instance_of l.path l.number l.form)
+
+-- the listener started
+abbrev pub started : App → Listener → Act (Unit {0})
+started app l = change (λ d. record d { marks = either d.marks (marked_by app l) })
+
+-- something done unless the event was stopped
+abbrev pub unless_stopped : Act (Unit {0}) → Act (Unit {0})
+unless_stopped m = get >>= (λ d. if d.stopped then pure tt else m)
+
+-- Listeners one after another. After one in which the event was stopped none is started, and none after a fault.
+abbrev pub in_turn : (Listener → Act (Unit {0})) → List Listener → Act (Unit {0})
+in_turn run [] = pure tt
+in_turn run (l ∷ ls) = run l >> unless_stopped (in_turn run ls)
+
 -- nothing happens on null
 abbrev pub unless_null : Item → Act (Unit {0}) → Act (Unit {0})
 unless_null (item.Value val.Null) m = pure tt
@@ -238,20 +208,15 @@ module _ (app : App) (tree : Tree) where
     listener_body run p event (form.Both y) = counted >> write (instance_at (unit_of (outlines app p))) y event
     listener_body run p event _ = pure tt
 
-    -- A listener is opened and started. Its start marks the instance that declares it, that one's ancestors, and on a host the host's instance.
-    abbrev pub run_listener : Trail → ℕ → Form → Value → TAttr → Act (Unit {0})
-    run_listener p n f event a =
-        opened runner (λ run. change (λ d. record d { marks = d.marks ++ with_ancestors (unit_of (outlines app p)) ++ instance_of p n f }) >> listener_body run p event a.form)
-
-    -- the listener of a node, if there is one
-    abbrev pub run_if_any : Trail → ℕ → Form → Value → Option TAttr → Act (Unit {0})
-    run_if_any p n f event None = pure tt
-    run_if_any p n f event (Some a) = run_listener p n f event a
+    -- a listener is opened, and then started
+    abbrev pub run_listener : Value → Listener → Act (Unit {0})
+    run_listener event l = opened runner (λ run. started app l >> listener_body run l.path event l.attribute.form)
 
     -- the listener for an output on the host with a number
     abbrev pub run_output : ℕ → Text → Value → Outlines → Act (Unit {0})
     run_output n output w [] = pure tt
-    run_output n output w (o ∷ outer) = elim (node_at n o.nodes) [ None ↦ pure tt | Some q ↦ run_if_any o.path n q.form w (listener output (attributes q.form)) ]
+    run_output n output w (o ∷ outer) =
+        elim (node_at n o.nodes) [ None ↦ pure tt | Some q ↦ each (run_listener w) (with_attribute o.path n q.form (listener output (attributes q.form))) ]
 
     -- `emit` of an instance runs the host's listener for that output at once; the root instance has none
     abbrev pub emit_from : Trail → Text → Value → Act (Unit {0})
@@ -303,9 +268,9 @@ module _ (app : App) (tree : Tree) where
   runner zero = None
   runner (suc n) = Some (λ f. each (λ s. act n (runner n) s f))
 
-  -- the listener that an event starts, which is the first open call
-  abbrev pub listener_event : Trail → Node → Value → TAttr → Act (Unit {0})
-  listener_event p q event a = run_listener most_calls (runner most_calls) p q.number q.form event a
+  -- an event on its way: each listener is the first open call, and their statements and calls are counted together
+  abbrev pub on_event : Value → List Listener → Act (Unit {0})
+  on_event event = in_turn (run_listener most_calls (runner most_calls) event)
 
   -- in an event, something done to what is held
   abbrev pub setting : {A : Type 0} → Setting A → Act A
@@ -326,41 +291,43 @@ abbrev pub is_signal : MemberKind → Bool
 is_signal (kind.Signal w) = true
 is_signal _ = false
 
--- the signals of a site whose value differs from that before an event
-abbrev pub changed_at : World → World → Site → List Member → List (Site × Text)
-changed_at before after at ms =
-    filter_map (λ m. if is_signal m.kind then (if same_value (value_before before at m) (value_or_null after at m.name) then None else Some (at, m.name)) else None) ms
+-- whether a member, if there is one, is a signal whose value differs from that before an event
+abbrev pub differs_at : World → World → Site → Option Member → Bool
+differs_at before after at None = false
+differs_at before after at (Some m) = is_signal m.kind && not (same_value (value_before before at m) (value_or_null after at m.name))
 
--- the signals that an event changed, site by site
-abbrev pub changed_signals : World → World → List (Site × Text)
-changed_signals before after = flat_map (λ h. changed_at before after h.0 h.1.members) after
+-- the member of a name of what a site holds
+abbrev pub held_member : Text → Option Held → Option Member
+held_member name None = None
+held_member name (Some h) = member name h.members
+
+-- Signals, as a test of their sites and names.
+abbrev pub Signals : Type 0
+Signals = Site → Text → Bool
+
+-- the signals that an event changed
+abbrev pub changed_signals : World → World → Signals
+changed_signals before after at name = differs_at before after at (held_member name (held after at))
 
 -- ---- the event
 
--- what came of an event
-pub data Outcome : Type 0 where
-  Ran : Outcome
-  Faulted : Fault → Outcome
-  NoTarget : Outcome
-  NoListener : Outcome
-
--- a pass follows where a listener or a method was started, or a token was looked for
-abbrev pub has_pass : Outcome → Bool
-has_pass NoTarget = false
-has_pass NoListener = false
-has_pass _ = true
+-- whether an event asks for a pass: a listener or a method was started, or a token was looked for
+abbrev pub asks_pass : Outcome → Bool
+asks_pass outcome.Ran = true
+asks_pass (outcome.Faulted f) = true
+asks_pass _ = false
 
 -- the result of an event, what is held after it, the instances that were marked, and the signals whose value differs from that before the event
 pub record Handled : Type 0 where
   pub outcome : Outcome
   pub world : World
-  pub marks : List Trail
-  pub changed : List (Site × Text)
+  pub marks : Marks
+  pub changed : Signals
 
 -- whether there was a fault
 abbrev pub outcome_of : Result (Unit {0}) Fault → Outcome
-outcome_of (Ok _) = Ran
-outcome_of (Err f) = Faulted f
+outcome_of (Ok _) = outcome.Ran
+outcome_of (Err f) = outcome.Faulted f
 
 -- what an event leaves that did something; a fault keeps what was written
 abbrev pub handled : World → Result (Unit {0}) Fault × Doing → Handled
@@ -368,35 +335,26 @@ handled before r = record { outcome = outcome_of r.0; world = r.1.world; marks =
 
 -- an event that did nothing
 abbrev pub nothing_done : Outcome → World → Handled
-nothing_done outcome world = record { outcome = outcome; world = world; marks = []; changed = [] }
+nothing_done came world = record { outcome = came; world = world; marks = none_marked; changed = λ at name. false }
 
 -- before an event has done anything
 abbrev pub idle : World → Doing
-idle world = record { world = world; statements = 0; calls = 0; marks = [] }
+idle world = record { world = world; statements = 0; calls = 0; marks = none_marked; stopped = false }
 
 module _ (app : App) (z : State) where
-  -- an event on a node, with the attribute that listens for it
-  abbrev pub on_listener : Trail → Node → Value → Option TAttr → Handled
-  on_listener p q event None = nothing_done NoListener z.world
-  on_listener p q event (Some a) = handled z.world (listener_event app z.tree p q event a (idle z.world))
+  -- an event for which these listen
+  abbrev pub on_listeners : Value → List Listener → Handled
+  on_listeners event [] = nothing_done outcome.NoListener z.world
+  on_listeners event (l ∷ ls) = handled z.world (on_event app z.tree event (l ∷ ls) (idle z.world))
 
-  -- an event on the node of a view
-  abbrev pub on_node : Text → Trail → Value → Option Node → Handled
-  on_node name p event None = nothing_done NoListener z.world
-  on_node name p event (Some q) = on_listener p q event (event_listener name q.form)
+  -- an event that goes this way
+  abbrev pub on_way : Text → Value → Option (List NodeId) → Handled
+  on_way name event None = nothing_done outcome.NoTarget z.world
+  on_way name event (Some way) = on_listeners event (way_listeners app name way)
 
-  -- an event on the node with a number of a view
-  abbrev pub on_view : Text → Value → ℕ → Outlines → Handled
-  on_view name event n [] = nothing_done NoListener z.world
-  on_view name event n (o ∷ outer) = on_node name o.path event (node_at n o.nodes)
-
-  -- an event on what it names; the root's host has no listener
-  abbrev pub on_target : Text → Value → Option NodeId → Handled
-  on_target name event None = nothing_done NoTarget z.world
-  on_target name event (Some id.Root) = nothing_done NoListener z.world
-  on_target name event (Some (id.At p n)) = on_view name event n (outlines app (reverse p))
-
-  -- What an event does. The tree stays as it is until the next pass.
+  -- What an event does. The tree stays as it is until the next pass. To hold passes back, and to let them follow, does nothing by itself.
   unfoldable pub handle : Event → Handled
-  handle (On name tag n event) = on_target name event (target (page app z.tree) tag n)
-  handle (Call token name args) = handled z.world (call_event app z.tree token name args (idle z.world))
+  handle (event.On name tag n value) = on_way name value (event_way (page app z.tree) tag n)
+  handle (event.Call token name args) = handled z.world (call_event app z.tree token name args (idle z.world))
+  handle event.Hold = nothing_done outcome.Held z.world
+  handle event.Flush = nothing_done outcome.Flushed z.world

@@ -40,3 +40,5 @@ pub mod Deeper
 pub mod Slots
 pub mod Hosts
 pub mod SlotsOnce
+pub mod Bubbling
+pub mod Holding

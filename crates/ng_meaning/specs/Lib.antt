@@ -17,8 +17,13 @@ pub mod Attributes
 pub mod Page
 pub mod Printing
 pub mod Queries
+pub mod Targets
 pub mod Events
 pub mod Runs
 pub mod Lines
+pub mod Operations
+pub mod Written
+pub mod Generated
+pub mod Ticks
 pub mod Compute
 pub mod Laws

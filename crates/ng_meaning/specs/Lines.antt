@@ -17,15 +17,19 @@ use Rattle.ng_tree.specs.declared.Item.{Item}
 use Rattle.ng_tree.specs.declared.Item.TheVariants as item
 use Rattle.ng_tree.specs.Names.{tokens, environments}
 use Rattle.ng_tree.specs.Texts.{path_text, site_text}
+use Rattle.ng_turns.specs.declared.Event.{Event}
+use Rattle.ng_turns.specs.declared.Outcome.{Outcome}
+use Rattle.ng_turns.specs.declared.Outcome.TheVariants as outcome
+use Rattle.ng_turns.specs.declared.Spot.{Spot}
+use Rattle.ng_turns.specs.declared.PassFault.{PassFault}
+use Rattle.ng_turns.specs.declared.PassFault.TheVariants as pass_fault
 use Rattle.ng_meaning.specs.Lists.{Text, look}
 use Rattle.ng_meaning.specs.World.{Held, held}
 use Rattle.ng_meaning.specs.Expressions.{or_null, gives_first}
 use Rattle.ng_meaning.specs.Places.{Trail, Outlines, path_of, instance_at, outlines}
 use Rattle.ng_meaning.specs.Tree.{Tree, State}
-use Rattle.ng_meaning.specs.Bindings.{Spot, PassFault, InView, TooManyNodes, TooDeep}
 use Rattle.ng_meaning.specs.Queries.{found, Instance, instances}
 use Rattle.ng_meaning.specs.Printing.{html}
-use Rattle.ng_meaning.specs.Events.{Event, Outcome, Ran, Faulted, NoTarget, NoListener}
 use Rattle.ng_meaning.specs.Runs.{Turn, Ending, Run, run_with}
 
 -- ---- items
@@ -59,20 +63,22 @@ fault_text (fault.CircularDependency t) = codes "CircularDependency(" ++ t ++ co
 
 -- ` at LINE:COLUMN in COMPONENT PATH`
 abbrev pub spot_text : Spot → Text
-spot_text w = codes " at " ++ decimal w.place.line ++ 58 ∷ decimal w.place.column ++ codes " in " ++ w.component ++ 32 ∷ path_text (path_of w.path)
+spot_text w = codes " at " ++ decimal w.place.line ++ 58 ∷ decimal w.place.column ++ codes " in " ++ w.component ++ 32 ∷ path_text w.path
 
 -- the line of a pass that had a fault
 abbrev pub pass_fault_line : PassFault → Text
-pass_fault_line (InView f w) = codes "fault " ++ fault_text f ++ spot_text w
-pass_fault_line (TooManyNodes w) = codes "fault TooManyNodes" ++ spot_text w
-pass_fault_line (TooDeep w) = codes "fault TooDeep" ++ spot_text w
+pass_fault_line (pass_fault.InView f w) = codes "fault " ++ fault_text f ++ spot_text w
+pass_fault_line (pass_fault.TooManyNodes w) = codes "fault TooManyNodes" ++ spot_text w
+pass_fault_line (pass_fault.TooDeep w) = codes "fault TooDeep" ++ spot_text w
 
 -- the result of an event
 abbrev pub outcome_text : Outcome → Text
-outcome_text Ran = codes "ran"
-outcome_text (Faulted f) = codes "fault " ++ fault_text f
-outcome_text NoTarget = codes "no-target"
-outcome_text NoListener = codes "no-listener"
+outcome_text outcome.Ran = codes "ran"
+outcome_text (outcome.Faulted f) = codes "fault " ++ fault_text f
+outcome_text outcome.NoTarget = codes "no-target"
+outcome_text outcome.NoListener = codes "no-listener"
+outcome_text outcome.Held = codes "held"
+outcome_text outcome.Flushed = codes "flushed"
 
 -- `event k RESULT`, which the first pass doesn't have
 abbrev pub event_lines : ℕ → Option Outcome → List Text

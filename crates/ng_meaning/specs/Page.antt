@@ -19,7 +19,7 @@ use Rattle.ng_meaning.specs.Projection.{slot_of, shown_slot, is_number}
 use Rattle.ng_meaning.specs.Tree.{NodeValue, BoundValues, TextValue, Tree, view_at, value_of}
 use Rattle.ng_meaning.specs.Bindings.{views_shown}
 use Rattle.ng_meaning.specs.Passes.{is_bound_input}
-use Rattle.ng_meaning.specs.Attributes.{attribute_list, printed}
+use Rattle.ng_meaning.specs.Attributes.{Attributes, attribute_list, printed}
 
 -- the bound values of an element
 abbrev pub bound_in : NodeValue → List (TAttr × Value)
@@ -31,13 +31,21 @@ abbrev pub text_in : NodeValue → Text
 text_in (TextValue t) = t
 text_in _ = []
 
+-- the attribute list of an element
+abbrev pub element_list : List TAttr → NodeValue → Attributes
+element_list attrs value = attribute_list attrs (bound_in value)
+
+-- the attribute list of a host, which no binding of an input has part in
+abbrev pub host_list : Component → List TAttr → NodeValue → Attributes
+host_list c attrs value = attribute_list attrs (filter (λ b. not (is_bound_input c.members b.0)) (bound_in value))
+
 -- the attributes that an element shows
 abbrev pub element_attributes : List TAttr → NodeValue → List (Text × Text)
-element_attributes attrs value = printed (attribute_list attrs (bound_in value))
+element_attributes attrs value = printed (element_list attrs value)
 
--- the attributes that a host shows: a binding of an input isn't printed
+-- the attributes that a host shows
 abbrev pub host_attributes : Component → List TAttr → NodeValue → List (Text × Text)
-host_attributes c attrs value = printed (attribute_list attrs (filter (λ b. not (is_bound_input c.members b.0)) (bound_in value)))
+host_attributes c attrs value = printed (host_list c attrs value)
 
 -- What is made of the nodes that a page has, in the order of the page: of an element or a host, by its identity, its tag, its attributes and what is
 -- made of what stands in it; of a text; and of a view that an outlet shows, by its path.

@@ -17,17 +17,20 @@ use Rattle.ng_tree.specs.declared.Item.{Item}
 use Rattle.ng_tree.specs.declared.Site.{Site}
 use Rattle.ng_tree.specs.declared.Site.TheVariants as site
 use Rattle.ng_tree.specs.declared.Step.TheVariants as step
+use Rattle.ng_turns.specs.declared.Spot.{Spot}
+use Rattle.ng_turns.specs.declared.PassFault.{PassFault}
+use Rattle.ng_turns.specs.declared.PassFault.TheVariants.{TooManyNodes, TooDeep}
 use Rattle.ng_meaning.specs.Steps.{◌>>=◌, ◌>>◌, pure, fail, change, get, each}
 use Rattle.ng_meaning.specs.Lists.{Text}
 use Rattle.ng_meaning.specs.Declared.{root_component, is_input}
 use Rattle.ng_meaning.specs.Same.{same_value, same_path}
 use Rattle.ng_meaning.specs.World.{World, Read, value_or_null, written, given, born}
 use Rattle.ng_meaning.specs.Template.{Form, Element, Host, TextNode, Node, nodes_of}
-use Rattle.ng_meaning.specs.Places.{Trail, Outline, Outlines, instance_at, entered, root_view}
+use Rattle.ng_meaning.specs.Places.{Trail, path_of, Outline, Outlines, instance_at, entered, root_view}
 use Rattle.ng_meaning.specs.Init.{Setting, run_init}
 use Rattle.ng_meaning.specs.Injection.{resolved}
-use Rattle.ng_meaning.specs.Tree.{NodeValue, BoundValues, View, empty_view, Tree, State, view_at, value_of, names_seen}
-use Rattle.ng_meaning.specs.Bindings.{Spot, PassFault, TooManyNodes, TooDeep, Pass, Passing, Visit, spot, at_spot, evaluate, views_shown}
+use Rattle.ng_meaning.specs.Tree.{NodeValue, BoundValues, View, empty_view, Tree, Marks, none_marked, State, view_at, value_of, names_seen}
+use Rattle.ng_meaning.specs.Bindings.{Pass, Passing, Visit, spot, at_spot, evaluate, views_shown}
 
 -- ---- step 1: the nodes of a new view are made, and the instances on its hosts
 
@@ -48,7 +51,7 @@ setting w m = λ s. let r = m s.world in (at_spot r.0 w, record s { world = r.1 
 
 -- a spot of an instance: a place in its declaration, and the path of its own view
 abbrev pub own_spot : Trail → Component → Place → Spot
-own_spot p c place = record { place = place; component = c.name; path = p }
+own_spot p c place = record { place = place; component = c.name; path = path_of p }
 
 -- an `inject` member of an instance is resolved, and gets what the token gives
 abbrev pub inject : App → Trail → Component → Member → MemberKind → Passing (Unit {0})
@@ -122,13 +125,13 @@ start app p c = setting (own_spot p c (init_place c.place c.members)) (run_init 
 abbrev pub is_stale : World → List Read → Bool
 is_stale world = list_any (λ r. not (same_value (value_or_null world r.at r.signal) r.value))
 
--- Given the tree that was shown before, whether every instance is checked, and the paths of those that are marked.
-module _ (app : App) (old : Tree) (every : Bool) (marks : List Trail) where
+-- Given the tree that was shown before, whether every instance is checked, and which are marked.
+module _ (app : App) (old : Tree) (every : Bool) (marks : Marks) where
   -- Whether an instance is checked, given what its last check read and whether its parent is checked: it is new, it is marked, an input got a different
   -- value, a signal that it read has another value, or it is not `onpush` and its parent is checked.
   abbrev pub is_due : World → Option (List Read) → Trail → Component → Bool → Bool → Bool
   is_due world None p c differs parent = true
-  is_due world (Some reads) p c differs parent = every || list_any (same_path p) marks || differs || is_stale world reads || (not c.onpush && parent)
+  is_due world (Some reads) p c differs parent = every || marks p || differs || is_stale world reads || (not c.onpush && parent)
 
   -- the instance that is visited; one that is checked has read nothing yet, and another one keeps what it read
   abbrev pub enter : Trail → Option (List Read) → Bool → Passing (Unit {0})
@@ -239,14 +242,14 @@ abbrev pub begun : World → Pass
 begun world = record { world = world; made = 0; views = []; instances = []; checked = [] }
 
 -- a pass over a state, where every instance is checked, or those alone that are due with some marked
-unfoldable pub pass : App → Bool → List Trail → State → Result Passed PassFault
+unfoldable pub pass : App → Bool → Marks → State → Result Passed PassFault
 pass app every marks z = ended (grow_root app z.tree every marks (root_view app (root_component app)) (begun z.world))
 
 -- a pass in which every instance is checked
 abbrev pub settle : App → State → Result Passed PassFault
-settle app z = pass app true [] z
+settle app z = pass app true none_marked z
 
 -- A pass in which the instances alone are checked that are due, some of them being marked. Another one keeps its shown values, choices and rows; the
 -- content handed to it is new, and its children are visited with the inputs that they have.
-abbrev pub keep : App → List Trail → State → Result Passed PassFault
+abbrev pub keep : App → Marks → State → Result Passed PassFault
 keep app marks z = pass app false marks z

@@ -1,5 +1,5 @@
 -- The state of an application: what it holds, and the tree that it showed last.
-use Rattle.std.specs.Prelude.{ℕ, nat_eq, List, [], Option, Some, None}
+use Rattle.std.specs.Prelude.{ℕ, Bool, false, ◌||◌, nat_eq, List, [], Option, Some, None}
 use Rattle.std.specs.List.{flat_map}
 use Rattle.std.specs.Map.{lookup}
 use Rattle.ng_values.specs.declared.value.Value.{Value}
@@ -41,6 +41,18 @@ empty_view names = record { names = names; values = [] }
 pub record Tree : Type 0 where
   pub views : List (Trail × View)
   pub instances : List (Trail × List Read)
+
+-- Instances that are marked, as a test of their paths.
+abbrev pub Marks : Type 0
+Marks = Trail → Bool
+
+-- no instance
+abbrev pub none_marked : Marks
+none_marked p = false
+
+-- the instances of both
+abbrev pub either : Marks → Marks → Marks
+either a b p = a p || b p
 
 -- what an application holds, and the tree that it showed last
 pub record State : Type 0 where

@@ -1,6 +1,7 @@
 //! Laws of the definitions.
 
-ghost use Rattle.std.specs.Prelude.{◌≡◌, ◌⊎◌, ◌↔◌, ◌∷◌, ◌+◌, ◌≤◌, ℕ, length, List, [], Bool, true, None, Option, Ok, Err, if◌then◌else◌};
+ghost use Rattle.std.specs.Prelude.{◌≡◌, ◌⊎◌, ◌↔◌, ◌∷◌, ◌+◌, ◌≤◌, ℕ, length, List, [], Bool, true, None, Some, Option, Ok, Err, if◌then◌else◌};
+ghost use Rattle.ng_values.specs.declared.value.Value.{Value};
 ghost use Rattle.ng_values.specs.declared.fault.Fault.{Fault};
 ghost use Rattle.ng_ast.specs.declared.App.{App};
 ghost use Rattle.ng_ast.specs.declared.Expr.{Expr, out-Expr};
@@ -13,21 +14,24 @@ ghost use Rattle.ng_tree.specs.declared.NodeId.{NodeId};
 ghost use Rattle.ng_tree.specs.declared.NodeId.TheVariants as id;
 ghost use Rattle.ng_tree.specs.declared.PNode.{PNode, out-PNode};
 ghost use Rattle.ng_tree.specs.declared.Site.{Site};
+ghost use Rattle.ng_turns.specs.declared.Event.{Event};
+ghost use Rattle.ng_turns.specs.declared.Event.TheVariants as event;
 ghost use Rattle.ng_meaning.specs.Steps.{pure};
 ghost use Rattle.ng_meaning.specs.Levels.{whole};
 ghost use Rattle.ng_meaning.specs.Lists.{Text};
 ghost use Rattle.ng_meaning.specs.World.{World, Read, held, is_live};
-ghost use Rattle.ng_meaning.specs.Expressions.{Bodies, mean_chain, mean_level};
+ghost use Rattle.ng_meaning.specs.Expressions.{Bodies, mean_chain, mean_level, most_calls};
 ghost use Rattle.ng_meaning.specs.Template.{Node, nodes_of, form_from, form_layer};
 ghost use Rattle.ng_meaning.specs.Places.{Trail, Outline, Outlines, outlines};
 ghost use Rattle.ng_meaning.specs.Declared.{root};
 ghost use Rattle.ng_meaning.specs.Init.{init_layer};
 ghost use Rattle.ng_meaning.specs.Injection.{upwards, environments_from, route, first_fit, give, search, provided, resolved};
-ghost use Rattle.ng_meaning.specs.Tree.{Tree, State};
+ghost use Rattle.ng_meaning.specs.Tree.{Marks, Tree, State};
 ghost use Rattle.ng_meaning.specs.Bindings.{outlet_layer, outlet_shown};
 ghost use Rattle.ng_meaning.specs.Passes.{lives, living, Passed, pass};
-ghost use Rattle.ng_meaning.specs.Events.{Event, Runner, act_layer, act, elements_layer, elements};
-ghost use Rattle.ng_meaning.specs.Runs.{Turn, run_with};
+ghost use Rattle.ng_meaning.specs.Targets.{ways_layer, ways, Listener, event_way, way_listeners};
+ghost use Rattle.ng_meaning.specs.Events.{Act, Doing, Runner, act_layer, act, in_turn, run_listener, runner, handled, idle, handle};
+ghost use Rattle.ng_meaning.specs.Runs.{Turn, settled, run_from, run_with};
 ghost use Rattle.ng_meaning.specs.Page.{page_nodes, outlet_views, draw, draw_root, page, outlets_met};
 ghost use Rattle.ng_meaning.specs.Queries.{Live, live_within, all_live};
 ghost use Rattle.ng_meaning.specs.Laws.Apart.{In, Apart};
@@ -37,6 +41,7 @@ ghost use Rattle.ng_meaning.specs.Laws.OnPage.{IsOnPage};
 ghost use Rattle.ng_meaning.specs.Laws.Units.{IsShown, ShowsSlotsOnce};
 ghost use Rattle.ng_meaning.specs.Laws.Live.{IsElement, IsLive};
 ghost use Rattle.ng_meaning.specs.Laws.Slots.{TemplatesHaveSlotsOnce};
+ghost use Rattle.ng_meaning.specs.Laws.Holding.{AllAct, each_flushed, ShowSame};
 ghost use Rattle.ng_meaning.specs.Printing.{escaped, escaped_value, html_layer, html};
 
 /// Two different texts, or two different values of attributes, are never printed alike.
@@ -65,14 +70,14 @@ pub fn searches_go_to_their_end()
 pub fn live_sites_are_kept()
     ensures exactly { (instances : List (Trail × List Read)) (world : World) (at : Site)
         → held (living instances world) at ≡ (if lives instances at then held world at else None) }
-    ensures after_pass { (app : App) (every : Bool) (marks : List Trail) (z : State) (p : Passed) (at : Site)
+    ensures after_pass { (app : App) (every : Bool) (marks : Marks) (z : State) (p : Passed) (at : Site)
         → pass app every marks z ≡ Ok p → is_live p.state.world at ≡ true → lives p.state.tree.instances at ≡ true }
 {}
 
 /// In the tree that a pass leaves no path stands twice, and each view stands behind the one that it is in.
 /// The tree that the pass began with has its rows counted, as every tree has that a pass left.
 pub fn paths_are_in_order()
-    ensures in_passes { (app : App) (every : Bool) (marks : List Trail) (z : State) (p : Passed)
+    ensures in_passes { (app : App) (every : Bool) (marks : Marks) (z : State) (p : Passed)
         → ViewsCounted z.tree.views → pass app every marks z ≡ Ok p → IsInOrder p.state.tree.views × ViewsCounted p.state.tree.views }
     ensures in_runs { (app : App) (every : Bool) (events : List Event) (t : Turn)
         → In t (run_with app every events).turns → IsInOrder t.state.tree.views }
@@ -81,7 +86,7 @@ pub fn paths_are_in_order()
 /// Each view that a tree shows was visited by the pass that left it, and has at most 63 steps. So a page, for which
 /// no longer paths are drawn, misses none.
 pub fn shown_views_are_live()
-    ensures { (app : App) (every : Bool) (marks : List Trail) (z : State) (r : Passed) → pass app every marks z ≡ Ok r
+    ensures { (app : App) (every : Bool) (marks : Marks) (z : State) (r : Passed) → pass app every marks z ≡ Ok r
         → (p : Trail) (o : Outline) (outer : Outlines) → IsShown app r.state.tree p → outlines app p ≡ o ∷ outer
         → In p (paths r.state.tree.views) × (length p ≤ 63) }
 {}
@@ -89,14 +94,14 @@ pub fn shown_views_are_live()
 /// Each view that is live in the tree of a pass is one that the tree shows: it has no others. The tree that the pass
 /// began with has its rows counted, as every tree has that a pass left.
 pub fn live_views_are_shown()
-    ensures { (app : App) (every : Bool) (marks : List Trail) (z : State) (r : Passed) → ViewsCounted z.tree.views → pass app every marks z ≡ Ok r
+    ensures { (app : App) (every : Bool) (marks : Marks) (z : State) (r : Passed) → ViewsCounted z.tree.views → pass app every marks z ≡ Ok r
         → (p : Trail) → In p (paths r.state.tree.views) → IsShown app r.state.tree p }
 {}
 
 /// The list of live nodes, in which queries search and which orders the report, has exactly the elements and hosts
 /// that stand in the views that the tree shows, each with the elements and hosts of its template that it stands in.
 pub fn live_elements_are_listed()
-    ensures in_passes { (app : App) (every : Bool) (marks : List Trail) (z : State) (r : Passed) → ViewsCounted z.tree.views → pass app every marks z ≡ Ok r
+    ensures in_passes { (app : App) (every : Bool) (marks : Marks) (z : State) (r : Passed) → ViewsCounted z.tree.views → pass app every marks z ≡ Ok r
         → (q : Live) → In q (all_live app r.state.tree) ↔ IsLive app r.state.tree q }
     ensures in_runs { (app : App) (every : Bool) (events : List Event) (t : Turn) → In t (run_with app every events).turns
         → (q : Live) → In q (all_live app t.state.tree) ↔ IsLive app t.state.tree q }
@@ -106,11 +111,11 @@ pub fn live_elements_are_listed()
 
 /// After a pass a page, the outlets that are met in it and the list of live nodes are the same with any more levels than 64.
 pub fn levels_are_enough()
-    ensures drawn { (app : App) (every : Bool) (marks : List Trail) (z : State) (r : Passed) → pass app every marks z ≡ Ok r
+    ensures drawn { (app : App) (every : Bool) (marks : Marks) (z : State) (r : Passed) → pass app every marks z ≡ Ok r
         → (more : ℕ) → draw app r.state.tree page_nodes (64 + more) (outlines app []) (λ k. []) ≡ draw_root app r.state.tree page_nodes }
-    ensures met { (app : App) (every : Bool) (marks : List Trail) (z : State) (r : Passed) → pass app every marks z ≡ Ok r
+    ensures met { (app : App) (every : Bool) (marks : Marks) (z : State) (r : Passed) → pass app every marks z ≡ Ok r
         → (more : ℕ) → draw app r.state.tree outlet_views (64 + more) (outlines app []) (λ k. []) ≡ outlets_met app r.state.tree }
-    ensures listed { (app : App) (every : Bool) (marks : List Trail) (z : State) (r : Passed) → ViewsCounted z.tree.views → pass app every marks z ≡ Ok r
+    ensures listed { (app : App) (every : Bool) (marks : Marks) (z : State) (r : Passed) → ViewsCounted z.tree.views → pass app every marks z ≡ Ok r
         → (more : ℕ) → live_within app r.state.tree (64 + more) (outlines app []) [] ≡ all_live app r.state.tree }
 {}
 
@@ -124,7 +129,7 @@ pub fn recursions_go_to_their_end()
         → whole out-Stmt size-Stmt (pure tt) (init_layer app at) s ≡ init_layer app at (whole out-Stmt size-Stmt (pure tt) (init_layer app at)) (out-Stmt s) }
     ensures templates { (app : App) (t : TNode) → form_from app t ≡ form_layer app (form_from app) (out-TNode t) }
     ensures outlets { (os : Outlines) (o : OutletForm) → outlet_shown os o ≡ outlet_layer os (outlet_shown os) (out-OutletForm o) }
-    ensures targets { (p : PNode) → elements p ≡ elements_layer elements (out-PNode p) }
+    ensures ways { (p : PNode) → ways p ≡ ways_layer ways (out-PNode p) }
     ensures printing { (p : PNode) → html p ≡ html_layer html (out-PNode p) }
 {}
 
@@ -145,4 +150,27 @@ pub fn page_has_each_shown_node_once()
     ensures once { (app : App) (tree : Tree) → ViewsCounted tree.views → ShowsSlotsOnce app tree → Apart (node_ids (page app tree)) }
     ensures once_in_runs { (app : App) (every : Bool) (events : List Event) (t : Turn)
         → In t (run_with app every events).turns → ShowsSlotsOnce app t.state.tree → Apart (node_ids t.page) }
+{}
+
+/// The listeners of a way are started one after another: after a fault none is, and after one that ended the others are, unless
+/// the event was stopped.
+pub fn listeners_run_in_turn()
+    ensures faulted { (run : Listener → Act (Unit {0})) (l : Listener) (ls : List Listener) (d : Doing) (f : Fault)
+        → (run l d).0 ≡ Err f → in_turn run (l ∷ ls) d ≡ run l d }
+    ensures ended { (run : Listener → Act (Unit {0})) (l : Listener) (ls : List Listener) (d : Doing)
+        → (run l d).0 ≡ Ok tt → in_turn run (l ∷ ls) d ≡ (if (run l d).1.stopped then (Ok tt, (run l d).1) else in_turn run ls (run l d).1) }
+{}
+
+/// An event on whose way one listener hears it does what that listener does, as if the event didn't bubble.
+pub fn one_listener_is_alone()
+    ensures { (app : App) (z : State) (name tag : Text) (n : ℕ) (value : Value) (way : List NodeId) (l : Listener)
+        → event_way (page app z.tree) tag n ≡ Some way → way_listeners app name way ≡ l ∷ []
+        → handle app z (event.On name tag n value) ≡ handled z.world (run_listener app z.tree most_calls (runner app z.tree most_calls) value l (idle z.world)) }
+{}
+
+/// A run in which each event is held, and flushed right after it, shows at each `flush` what the run without holding shows: the
+/// same instances are checked, and the same state and page are left, or the same fault ends it.
+pub fn holding_each_event_changes_nothing()
+    ensures { (app : App) (every : Bool) (es : List Event) (z : State) → AllAct es
+        → ShowSame (run_from app every (each_flushed es) (settled z)) (run_from app every es (settled z)) }
 {}

@@ -144,8 +144,7 @@ impl State {
             nodes,
         })?;
         self.keep = keep;
-        self.waiting = Waiting::Nobody;
-        self.run = None;
+        self.clear();
         self.made = made;
         Ok(())
     }
@@ -234,8 +233,7 @@ impl State {
         ensures { OnOk result (self.new ≡ spec.added node self.old) }
     {
         self.nodes.push(node)?;
-        self.waiting = Waiting::Nobody;
-        self.run = None;
+        self.clear();
         self.made += 1;
         Ok(())
     }

@@ -8,7 +8,7 @@ ghost use Rattle.ng_nodes.specs.Waits.{if_of};
 ghost use Rattle.ng_nodes.specs.declared.state.Waiting.TheVariants as wt;
 
 use crate::halt::Halt;
-use crate::state::{Opener, State, Waiting};
+use crate::state::{Opener, State, Waiting, put};
 use crate::text::{all_blank, is_gap};
 use ng_ast::{Branch, Expr, Place};
 use ng_lex::{Letter, Shape};
@@ -25,8 +25,18 @@ impl State {
     {
         let gap = is_gap(&self.run);
         match mem::replace(&mut self.waiting, Waiting::Nobody) {
-            Waiting::If(block, before) => { if gap { Some((block, before)) } else { None } }
-            _ => None,
+            Waiting::If(block, before) => {
+                if gap {
+                    Some((block, before))
+                } else {
+                    drop(before);
+                    None
+                }
+            }
+            other => {
+                drop(other);
+                None
+            }
         }
     }
 
@@ -48,7 +58,11 @@ impl State {
                 let opener = Opener::If(block, before, place, test, name);
                 Ok(self.inside(alloc, opener, keep, made)?)
             }
-            None => Err(Halt::Syntax(place)),
+            None => {
+                drop(test);
+                drop(name);
+                Err(Halt::Syntax(place))
+            }
         }
     }
 
@@ -67,7 +81,10 @@ impl State {
                 self.inside(alloc, opener, keep, made)?;
                 Ok(())
             }
-            _ => Err(Halt::Syntax(place)),
+            other => {
+                drop(other);
+                Err(Halt::Syntax(place))
+            }
         }
     }
 
@@ -109,13 +126,19 @@ impl State {
     {
         match mem::replace(&mut self.opener, Opener::Root) {
             Opener::Switch(block, of, before) => {
-                self.opener = Opener::Case(block, of, before, place, value);
-                self.nodes = Items::new(alloc);
-                self.waiting = Waiting::Nobody;
-                self.run = None;
+                put(
+                    &mut self.opener,
+                    Opener::Case(block, of, before, place, value),
+                );
+                put(&mut self.nodes, Items::new(alloc));
+                self.clear();
                 Ok(())
             }
-            _ => Err(Halt::Syntax(place)),
+            other => {
+                drop(other);
+                drop(value);
+                Err(Halt::Syntax(place))
+            }
         }
     }
 

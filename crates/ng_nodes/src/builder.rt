@@ -47,9 +47,14 @@ impl Builder {
         ensures read { IfOk result (λ next. (front : Parts) → HasRead front self → HasRead (front ++ part ∷ []) next) }
         ensures refused { IfErr result (λ e. (front : Parts) → HasRead front self → Halts (CannotStand front part) ((more : Parts) → OverParts (front ++ part ∷ more)) e) }
     {
-        let Builder { alloc, state } = self;
-        let state = state.after(alloc, part)?;
-        Ok(Builder { alloc, state })
+        let Builder { alloc, mut state } = self;
+        match state.step(alloc, part) {
+            Ok(()) => Ok(Builder { alloc, state }),
+            Err(halt) => {
+                drop(state);
+                Err(halt)
+            }
+        }
     }
 
     /// The nodes of all parts.

@@ -9,7 +9,7 @@ ghost use Rattle.ng_nodes.specs.declared.state.Opener.TheVariants as op;
 ghost use Rattle.ng_nodes.specs.declared.state.Waiting.TheVariants as wt;
 
 use crate::halt::Halt;
-use crate::state::{Frame, Opener, State, Waiting};
+use crate::state::{Frame, Opener, State, Waiting, put};
 use ng_ast::{Branch, Expr, Place, TNode};
 use ng_values::NgText;
 use sqlite_items::Items;
@@ -26,11 +26,11 @@ impl State {
             keep,
             nodes,
         } = frame;
-        drop(mem::replace(&mut self.opener, opener));
+        put(&mut self.opener, opener);
         self.keep = keep;
-        self.nodes = nodes;
-        self.waiting = waiting;
-        self.run = None;
+        put(&mut self.nodes, nodes);
+        put(&mut self.waiting, waiting);
+        put(&mut self.run, None);
     }
 
     // A branch ends, after which its block may go on.
@@ -38,11 +38,16 @@ impl State {
     fn end_to(&mut self, waiting: Waiting, place: Place) -> Result<(), Halt>
         ensures { Gives (spec.ended_to self.old.outer waiting self.old.made) result self.new }
     {
-        let Some(frame) = self.outer.pop() else {
-            return Err(Halt::Syntax(place));
-        };
-        self.back_to(frame, waiting);
-        Ok(())
+        match self.outer.pop() {
+            Some(frame) => {
+                self.back_to(frame, waiting);
+                Ok(())
+            }
+            None => {
+                drop(waiting);
+                Err(Halt::Syntax(place))
+            }
+        }
     }
 
     // An element or a block ends, as a node of the frame around it.
@@ -133,9 +138,8 @@ impl State {
         ensures { Gives (Ok (spec.at self.old.outer (op.Switch block of (before ++ case ∷ [])) self.old.keep self.old.nodes wt.Nobody None self.old.made)) result self.new }
     {
         let cases = pushed(before, case)?;
-        drop(mem::replace(&mut self.opener, Opener::Switch(block, of, cases)));
-        self.waiting = Waiting::Nobody;
-        self.run = None;
+        put(&mut self.opener, Opener::Switch(block, of, cases));
+        self.clear();
         Ok(())
     }
 
@@ -156,7 +160,11 @@ impl State {
             Opener::Case(block, of, before, start, value) => {
                 self.end_case(block, of, before, branch_of(start, value, None, nodes))
             }
-            _ => Err(Halt::Syntax(place)),
+            other => {
+                drop(other);
+                drop(nodes);
+                Err(Halt::Syntax(place))
+            }
         }
     }
 

@@ -8,8 +8,6 @@ mod ends;
 mod halt;
 mod machine;
 mod state;
-#[cfg(test)]
-mod tests;
 mod text;
 
 ghost use Rattle.std.specs.Prelude.{◌≡◌, ℕ, Bool, false, List, IfOk, IfErr};

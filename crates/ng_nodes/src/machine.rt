@@ -1,7 +1,7 @@
 //! Takes one part after another.
 
-ghost use Rattle.std.specs.Prelude.{◌≡◌, ◌≤◌, length, nat_lt, Ok, OnOk, IfOk, IfErr};
-ghost use Rattle.ng_nodes.specs.Gives.{Gives, Fails, Answers};
+ghost use Rattle.std.specs.Prelude.{◌≡◌, ◌≤◌, length, nat_lt, OnOk};
+ghost use Rattle.ng_nodes.specs.Gives.{Gives, Answers};
 ghost use Rattle.ng_nodes.specs.Machine as spec;
 
 use crate::halt::Halt;
@@ -90,9 +90,9 @@ impl State {
         }
     }
 
-    // Takes one more part.
+    /// Takes one more part.
     #[tactic(auto, using(crate::proofs::Steps::checked_full, crate::proofs::Steps::checked_few), unfolding(crate::specs::Machine::step))]
-    fn step(&mut self, alloc: Global, part: Part) -> Result<(), Halt>
+    pub fn step(&mut self, alloc: Global, part: Part) -> Result<(), Halt>
         requires { self.old.made ≤ 4096 }
         ensures gives { Gives (spec.step 32 4096 self.old part) result self.new }
         ensures few { OnOk result (self.new.made ≤ 4096) }
@@ -103,22 +103,6 @@ impl State {
             return Err(Halt::Limit(place));
         }
         Ok(())
-    }
-
-    /// The state after one more part.
-    pub fn after(mut self, alloc: Global, part: Part) -> Result<State, Halt>
-        requires { self.made ≤ 4096 }
-        ensures goes_on { IfOk result (λ next. spec.step 32 4096 self part ≡ Ok next) }
-        ensures few { IfOk result (λ next. next.made ≤ 4096) }
-        ensures stops { IfErr result (λ e. Fails (spec.step 32 4096 self part) e) }
-    {
-        match self.step(alloc, part) {
-            Ok(()) => Ok(self),
-            Err(halt) => {
-                drop(self);
-                Err(halt)
-            }
-        }
     }
 
     // Where the element or the block begins that is open.
@@ -163,7 +147,12 @@ pub fn read(alloc: Global, mut parts: Stack<Part>) -> Result<Items<TNode>, Halt>
 {
     let mut state = State::new(alloc);
     while let Some(part) = parts.pop() {
-        state = state.after(alloc, part)?;
+        if let Err(halt) = state.step(alloc, part) {
+            drop(state);
+            drop(parts);
+            return Err(halt);
+        }
     }
+    drop(parts);
     state.finish(alloc)
 }

@@ -7,6 +7,7 @@ use ng_values::NgText;
 use sqlite_items::Items;
 use std::alloc::{AllocError, Global};
 use std::marker::Model;
+use std::mem;
 
 /// What the nodes that come now stand in, with its place and what it has so far.
 #[derive(Drop)]
@@ -111,6 +112,13 @@ impl<T: Drop> Stack<T> {
     }
 }
 
+/// Puts a value in the place of another, which is let go.
+pub fn put<T: Drop>(place: &mut T, value: T)
+    ensures { place.new ≡ value }
+{
+    drop(mem::replace(place, value));
+}
+
 /// The parts that were read: the elements and blocks that are begun, from the inside out; what the nodes that come now stand in,
 /// whether white space is kept there, and its nodes so far; the block that may go on; the text that is begun; and how many nodes
 /// are begun.
@@ -123,4 +131,17 @@ pub struct State {
     pub waiting: Waiting,
     pub run: Option<Run>,
     pub made: usize,
+}
+
+impl State {
+    ghost use Rattle.std.specs.Prelude.{None};
+    ghost use Rattle.ng_nodes.specs.declared.state.Waiting.TheVariants as wt;
+
+    /// No block may go on, and no text is begun.
+    pub fn clear(&mut self)
+        ensures { self.new ≡ record self.old { waiting = wt.Nobody; run = None } }
+    {
+        put(&mut self.waiting, Waiting::Nobody);
+        put(&mut self.run, None);
+    }
 }

@@ -8,6 +8,3 @@ mod site;
 pub use declared::{Declared, Kind, index_of, one_more};
 pub use nodes::{nodes_of, repeated_nodes};
 pub use site::{Site, push_if, push_repeats, push_site};
-
-#[cfg(test)]
-mod tests;

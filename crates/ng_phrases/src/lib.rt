@@ -54,6 +54,3 @@ pub fn one_token()
     ensures one { Agree ReadsToken ReadsToken }
     ensures some { Takes ReadsToken }
 {}
-
-#[cfg(test)]
-mod tests;

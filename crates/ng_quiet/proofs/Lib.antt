@@ -1,3 +1,4 @@
+pub mod OneMore
 pub mod Members
 pub mod ReachedLaws
 pub mod UsedLaws

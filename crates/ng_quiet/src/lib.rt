@@ -9,6 +9,3 @@ mod skipped;
 mod survey;
 
 pub use quiet::is_quiet;
-
-#[cfg(test)]
-mod tests;

@@ -1,5 +1,6 @@
 -- Short names for the parts of an application, for events, and for what a run is asked to write.
 use Rattle.std.specs.Prelude.{ℕ, Bool, true, false, List, [], Option, codes}
+use Rattle.ng_values.specs.declared.value.Value.{Value}
 use Rattle.ng_values.specs.declared.value.Value.TheVariants as val
 use Rattle.ng_ast.specs.declared.Place.{Place}
 use Rattle.ng_ast.specs.declared.Expr.{Expr}
@@ -17,8 +18,9 @@ use Rattle.ng_ast.specs.declared.Component.{Component}
 use Rattle.ng_ast.specs.declared.Service.{Service}
 use Rattle.ng_ast.specs.declared.Provider.{Provider}
 use Rattle.ng_ast.specs.declared.Environment.{Environment}
+use Rattle.ng_turns.specs.declared.Event.{Event}
+use Rattle.ng_turns.specs.declared.Event.TheVariants as event
 use Rattle.ng_meaning.specs.Lists.{Text}
-use Rattle.ng_meaning.specs.Events.{Event, On, Call}
 use Rattle.ng_meaning.specs.Lines.{Wanted}
 
 -- line, column and byte
@@ -64,11 +66,31 @@ environment place name under provides = record { place = place; name = name; und
 
 -- a click on the nth element of a tag
 abbrev pub click : Text → ℕ → Event
-click tag n = On (codes "click") tag n val.Null
+click tag n = event.On (codes "click") tag n val.Null
+
+-- an event of this name, without a value, on the nth element of a tag
+abbrev pub fire : Text → Text → ℕ → Event
+fire name tag n = event.On name tag n val.Null
+
+-- the same with a value
+abbrev pub fire_with : Text → Text → ℕ → Value → Event
+fire_with name tag n w = event.On name tag n w
+
+-- a call of a method on what a token gives
+abbrev pub call_with : Text → Text → List Value → Event
+call_with token name args = event.Call token name args
 
 -- a call of a method, without arguments, on what a token gives
 abbrev pub call : Text → Text → Event
-call token name = Call token name []
+call token name = event.Call token name []
+
+-- from here on no pass follows an event
+abbrev pub hold : Event
+hold = event.Hold
+
+-- the pass that was held back follows
+abbrev pub flush : Event
+flush = event.Flush
 
 -- events and pages alone
 abbrev pub pages : Wanted

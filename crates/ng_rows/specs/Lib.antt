@@ -8,3 +8,6 @@ pub mod Queries
 pub mod Bound
 pub mod Faults
 pub mod Outlets
+pub mod Bubbling
+pub mod Holding
+pub mod Nodes

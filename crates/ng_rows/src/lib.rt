@@ -6,10 +6,14 @@
 
 pub mod blocks;
 pub mod bound;
+pub mod bubbling;
 pub mod checking;
 pub mod content;
 pub mod counter;
 pub mod faults;
+pub mod generating;
+pub mod holding;
+pub mod nodes;
 pub mod outlets;
 pub mod providers;
 pub mod queries;

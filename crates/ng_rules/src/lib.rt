@@ -9,6 +9,3 @@ pub use checker::{
     CheckError, SoundApp, check, one_least_break, one_list_of_breaks, sound_breaks_nothing,
 };
 pub use questions::{quiet, unbuilt};
-
-#[cfg(test)]
-mod tests;

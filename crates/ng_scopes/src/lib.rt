@@ -19,6 +19,3 @@ pub use names::{Known, Meaning, Sort};
 pub use scope::{Entry, table_of};
 pub use usage::{Act, Part, Spot, Usage};
 pub use views::{branch_names, inner_names, row_names, view_names};
-
-#[cfg(test)]
-mod tests;

@@ -65,6 +65,3 @@ pub fn one_selector()
 pub fn computed_selector()
     ensures { (t : Text) (s : Selector) → (selector_of t ≡ Some s) ↔ ReadsSelector t s }
 {}
-
-#[cfg(test)]
-mod tests;

@@ -10,6 +10,3 @@ mod values;
 
 pub use halt::Halt;
 pub use tags::{read_end, read_start};
-
-#[cfg(test)]
-mod tests;

@@ -1,3 +1,4 @@
+pub mod OneMore
 pub mod LeastNext
 pub mod NodeLaws
 pub mod SlotLaws

@@ -11,6 +11,3 @@ mod tables;
 mod templates;
 
 pub use templates::judge_templates;
-
-#[cfg(test)]
-mod tests;

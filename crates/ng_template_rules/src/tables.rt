@@ -6,47 +6,45 @@ ghost use Rattle.ng_template_rules.specs.Tables as spec;
 
 use ng_values::NgText;
 
-fn is_first_property(name: &str) -> bool
-    ensures { result ≡ list_any (bytes_eq name.now) spec.first_properties }
-{
-    name == "id"
-        || name == "title"
-        || name == "lang"
-        || name == "dir"
-        || name == "name"
-        || name == "value"
-        || name == "type"
-        || name == "placeholder"
-        || name == "href"
-        || name == "src"
-}
+const FIRST_PROPERTIES: [&str; 10] = [
+    "id",
+    "title",
+    "lang",
+    "dir",
+    "name",
+    "value",
+    "type",
+    "placeholder",
+    "href",
+    "src",
+];
 
-fn is_second_property(name: &str) -> bool
-    ensures { result ≡ list_any (bytes_eq name.now) spec.second_properties }
-{
-    name == "alt"
-        || name == "min"
-        || name == "max"
-        || name == "step"
-        || name == "width"
-        || name == "height"
-        || name == "htmlFor"
-        || name == "tabIndex"
-        || name == "colSpan"
-        || name == "rowSpan"
-}
+const SECOND_PROPERTIES: [&str; 10] = [
+    "alt", "min", "max", "step", "width", "height", "htmlFor", "tabIndex", "colSpan", "rowSpan",
+];
 
-fn is_truth_property(name: &str) -> bool
-    ensures { result ≡ list_any (bytes_eq name.now) spec.truth_properties }
+const TRUTH_PROPERTIES: [&str; 8] = [
+    "hidden", "disabled", "checked", "selected", "readOnly", "required", "multiple", "open",
+];
+
+const POINTER_EVENTS: [&str; 7] = [
+    "click",
+    "dblclick",
+    "mousedown",
+    "mouseup",
+    "mouseenter",
+    "mouseleave",
+    "scroll",
+];
+
+const INPUT_EVENTS: [&str; 9] = [
+    "keydown", "keyup", "keypress", "input", "change", "focus", "blur", "submit", "reset",
+];
+
+fn is_among(name: &str, names: &[&str]) -> bool
+    ensures { result ≡ list_any (λ n. bytes_eq name.now n.now) names.now }
 {
-    name == "hidden"
-        || name == "disabled"
-        || name == "checked"
-        || name == "selected"
-        || name == "readOnly"
-        || name == "required"
-        || name == "multiple"
-        || name == "open"
+    names.iter().any(|known| name == *known)
 }
 
 /// Whether elements have a property of the name.
@@ -54,38 +52,15 @@ pub(crate) fn is_property(name: &NgText) -> bool
     ensures { result ≡ spec.is_property name.now }
 {
     let name = name.as_str();
-    is_first_property(name) || is_second_property(name) || is_truth_property(name)
-}
-
-fn is_pointer_event(name: &str) -> bool
-    ensures { result ≡ list_any (bytes_eq name.now) spec.pointer_events }
-{
-    name == "click"
-        || name == "dblclick"
-        || name == "mousedown"
-        || name == "mouseup"
-        || name == "mouseenter"
-        || name == "mouseleave"
-        || name == "scroll"
-}
-
-fn is_input_event(name: &str) -> bool
-    ensures { result ≡ list_any (bytes_eq name.now) spec.input_events }
-{
-    name == "keydown"
-        || name == "keyup"
-        || name == "keypress"
-        || name == "input"
-        || name == "change"
-        || name == "focus"
-        || name == "blur"
-        || name == "submit"
-        || name == "reset"
+    is_among(name, &FIRST_PROPERTIES)
+        || is_among(name, &SECOND_PROPERTIES)
+        || is_among(name, &TRUTH_PROPERTIES)
 }
 
 /// Whether elements have an event of the name.
 pub(crate) fn is_event(name: &NgText) -> bool
     ensures { result ≡ spec.is_event name.now }
 {
-    is_pointer_event(name.as_str()) || is_input_event(name.as_str())
+    let name = name.as_str();
+    is_among(name, &POINTER_EVENTS) || is_among(name, &INPUT_EVENTS)
 }

@@ -5,6 +5,3 @@ mod nodes;
 mod read;
 
 pub use read::{one_template, read_template};
-
-#[cfg(test)]
-mod tests;

@@ -8,6 +8,3 @@ mod tags;
 mod template;
 
 pub use application::unbuilt;
-
-#[cfg(test)]
-mod tests;

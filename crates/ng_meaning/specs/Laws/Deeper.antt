@@ -9,7 +9,7 @@ use Rattle.ng_tree.specs.declared.Step.TheVariants as step
 use Rattle.ng_meaning.specs.Template.{Form, Element, Host, NgContent, NgContainer, NgTemplate, TextNode, If, For, Switch, Let, Nodes, no_nodes, node}
 use Rattle.ng_meaning.specs.Places.{Trail, Outline, Outlines, node_id, entered, outlines}
 use Rattle.ng_meaning.specs.Projection.{shown_slot}
-use Rattle.ng_meaning.specs.Tree.{Tree, State, view_at, value_of}
+use Rattle.ng_meaning.specs.Tree.{Marks, Tree, State, view_at, value_of}
 use Rattle.ng_meaning.specs.Bindings.{views_shown}
 use Rattle.ng_meaning.specs.Passes.{Passed, pass}
 use Rattle.ng_meaning.specs.Page.{Drawing, Handed, handed_to, together, element_attributes, host_attributes, outlet_views, draw_views, draw_outlets, draw_nodes, draw_form, draw, draw_root, outlets_met}
@@ -188,7 +188,7 @@ module _ (app : App) (tree : Tree) where
 
 -- ---- after a pass
 
-module _ (app : App) (every : Bool) (marks : List Trail) (z : State) (r : Passed) (e : pass app every marks z ≡ Ok r) where
+module _ (app : App) (every : Bool) (marks : Marks) (z : State) (r : Passed) (e : pass app every marks z ≡ Ok r) where
   -- However many levels more are drawn, nothing else is made of a page.
   pub pass-DrawsAlike : {A : Type 0} (d : Drawing A) (k : ℕ) → draw app r.state.tree d (64 + k) (outlines app []) (λ n. []) ≡ draw_root app r.state.tree d
   pass-DrawsAlike d k =

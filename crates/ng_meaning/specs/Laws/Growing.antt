@@ -15,8 +15,10 @@ use Rattle.ng_meaning.specs.Steps.{and_then, ◌>>=◌, ◌>>◌, pure, get, cha
 use Rattle.ng_meaning.specs.Same.{same_path}
 use Rattle.ng_meaning.specs.Template.{Form, Host, Node, nodes_of}
 use Rattle.ng_meaning.specs.Places.{Trail, Outline, Outlines, instance_at, entered, root_view}
-use Rattle.ng_meaning.specs.Tree.{Tree, State, View, empty_view, view_at, value_of, names_seen}
-use Rattle.ng_meaning.specs.Bindings.{Pass, PassFault, Passing, Spot, spot, Visit, evaluate, Shown, views_shown}
+use Rattle.ng_meaning.specs.Tree.{Marks, Tree, State, View, empty_view, view_at, value_of, names_seen}
+use Rattle.ng_turns.specs.declared.Spot.{Spot}
+use Rattle.ng_turns.specs.declared.PassFault.{PassFault}
+use Rattle.ng_meaning.specs.Bindings.{Pass, Passing, spot, Visit, evaluate, Shown, views_shown}
 use Rattle.ng_meaning.specs.Declared.{root_component}
 use Rattle.ng_meaning.specs.Laws.Living.{left_by}
 use Rattle.ng_meaning.specs.Passes.{make, own_spot, bear_instance, grow_root, begun, Passed, passed, pass, make_node, start, set_inputs, inputs, is_due, enter, turn, turn_in, turn_host, visit_in, visit_node, view_of, visit_view, grow}
@@ -245,7 +247,7 @@ single [] = refl
 single (b ∷ bs) = ap (λ ss. b.0 ∷ ss) (single bs)
 
 -- Given the tree that was shown before, of which the rows are counted, and a visit of views inside that grows them.
-module _ (app : App) (old : Tree) (every : Bool) (marks : List Trail) (visit : Visit → Passing (Unit {0})) (grows : (v : Visit) → HaveNumbers (v.at ∷ v.outer) → Grows v.at.path (visit v)) where
+module _ (app : App) (old : Tree) (every : Bool) (marks : Marks) (visit : Visit → Passing (Unit {0})) (grows : (v : Visit) → HaveNumbers (v.at ∷ v.outer) → Grows v.at.path (visit v)) where
   visit_in_adds : (p : Trail) (s : Step) (os : Outlines) (names : List (Text × Item)) (due : Bool) (from : Spot) → HaveNumbers os → BeginsAt (s ∷ p) os → Adds p (s ∷ []) (visit_in app old every marks visit os names due from)
   visit_in_adds p s [] names due from h b t = nothing_added p (s ∷ []) t.views
   visit_in_adds p s (o ∷ outer) names due from h b t =
@@ -375,13 +377,13 @@ module _ (app : App) (old : Tree) (every : Bool) (marks : List Trail) (visit : V
 -- ---- a pass
 
 -- The tree grows, from a tree whose rows are counted.
-pub grow-Grows : (app : App) (old : Tree) (every : Bool) (marks : List Trail) → ViewsCounted old.views → (n : ℕ) (v : Visit) → HaveNumbers (v.at ∷ v.outer) → Grows v.at.path (grow app old every marks n v)
+pub grow-Grows : (app : App) (old : Tree) (every : Bool) (marks : Marks) → ViewsCounted old.views → (n : ℕ) (v : Visit) → HaveNumbers (v.at ∷ v.outer) → Grows v.at.path (grow app old every marks n v)
 unfolding grow
 grow-Grows app old every marks counted zero v h s = nothing_grown v.at.path s.views
 grow-Grows app old every marks counted (suc n) v h s =
     visit_grows app old every marks (grow app old every marks n) (grow-Grows app old every marks counted n) v h (found_counted v.at.path old.views counted) s
 
-root_grows : (app : App) (old : Tree) (every : Bool) (marks : List Trail) → ViewsCounted old.views → (os : Outlines) → HaveNumbers os → BeginsAt [] os → Grows [] (grow_root app old every marks os)
+root_grows : (app : App) (old : Tree) (every : Bool) (marks : Marks) → ViewsCounted old.views → (os : Outlines) → HaveNumbers os → BeginsAt [] os → Grows [] (grow_root app old every marks os)
 root_grows app old every marks counted [] h b s = nothing_grown [] s.views
 root_grows app old every marks counted (o ∷ outer) h b s =
     let here = own_spot [] o.component o.component.place in
@@ -405,7 +407,7 @@ root_begins app None = tt
 root_begins app (Some c) = refl
 
 -- A pass over a tree whose rows are counted leaves a tree that is in order, and whose rows are counted.
-pub pass-IsInOrder : (app : App) (every : Bool) (marks : List Trail) (z : State) (p : Passed) → ViewsCounted z.tree.views → pass app every marks z ≡ Ok p → IsInOrder p.state.tree.views × ViewsCounted p.state.tree.views
+pub pass-IsInOrder : (app : App) (every : Bool) (marks : Marks) (z : State) (p : Passed) → ViewsCounted z.tree.views → pass app every marks z ≡ Ok p → IsInOrder p.state.tree.views × ViewsCounted p.state.tree.views
 unfolding pass
 pass-IsInOrder app every marks z p counted e =
     let os = root_view app (root_component app) in

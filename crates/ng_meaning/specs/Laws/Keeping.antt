@@ -27,8 +27,11 @@ use Rattle.ng_meaning.specs.Expressions.{Scope, Meaning, mean_value, most_calls,
 use Rattle.ng_meaning.specs.Injection.{resolved}
 use Rattle.ng_meaning.specs.Same.{same_value}
 use Rattle.ng_meaning.specs.Places.{Trail, instance_at}
-use Rattle.ng_meaning.specs.Tree.{BoundValues, TextValue, Choice, RowList, LetValue, View, empty_view, Row, Tree, names_seen}
-use Rattle.ng_meaning.specs.Bindings.{Pass, PassFault, TooManyNodes, Passing, Spot, spot, Visit, binding, bound_to, first_place, with_attribute, having, if_head, default_branch, switch_head, items_of, outlet_shown, context_value, bound_value, bound_values, track_value, rows_from, outlet_part, outlet_value, evaluated, with_node, evaluate}
+use Rattle.ng_meaning.specs.Tree.{Marks, BoundValues, TextValue, Choice, RowList, LetValue, View, empty_view, Row, Tree, names_seen}
+use Rattle.ng_turns.specs.declared.Spot.{Spot}
+use Rattle.ng_turns.specs.declared.PassFault.{PassFault}
+use Rattle.ng_turns.specs.declared.PassFault.TheVariants.{TooManyNodes}
+use Rattle.ng_meaning.specs.Bindings.{Pass, Passing, spot, Visit, binding, bound_to, first_place, with_attribute, having, if_head, default_branch, switch_head, items_of, outlet_shown, context_value, bound_value, bound_values, track_value, rows_from, outlet_part, outlet_value, evaluated, with_node, evaluate}
 use Rattle.ng_meaning.specs.Passes.{is_page_node, make, own_spot, setting, inject, bear_instance, make_instance, make_node, set_inputs, start, enter, view_of}
 
 -- a step leaves the views as they are, whether it ends in a fault or not
@@ -146,7 +149,7 @@ evaluate_keeps app v outer (q ∷ qs) sofar s =
     (λ value. evaluate_keeps app v outer qs (with_node v.at.path q value sofar)) s
 
 -- What a view is found to be keeps the views.
-pub view_of-Keeps : (app : App) (old : Tree) (every : Bool) (marks : List Trail) (v : Visit) (was : Option View) → Keeps (view_of app old every marks v was)
+pub view_of-Keeps : (app : App) (old : Tree) (every : Bool) (marks : Marks) (v : Visit) (was : Option View) → Keeps (view_of app old every marks v was)
 view_of-Keeps app old every marks v was s =
     either_end v.due (evaluate app v (names_seen s.views v.outer) (empty_view v.names) (nodes_of v.at.nodes) s) (Ok (unwrap_or was (empty_view v.names)), s) s.views
     (evaluate_keeps app v (names_seen s.views v.outer) (nodes_of v.at.nodes) (empty_view v.names) s) refl
@@ -165,6 +168,6 @@ pub start-Keeps : (app : App) (b : Bool) (p : Trail) (c : Component) → Keeps (
 start-Keeps app b p c = keeps_if b (start app p c) (pure tt) (λ s. refl) (λ s. refl)
 
 -- The entry of an instance keeps the views.
-pub enter-Keeps : (app : App) (old : Tree) (every : Bool) (marks : List Trail) (p : Trail) (was : Option (List Read)) (due : Bool) → Keeps (enter app old every marks p was due)
+pub enter-Keeps : (app : App) (old : Tree) (every : Bool) (marks : Marks) (p : Trail) (was : Option (List Read)) (due : Bool) → Keeps (enter app old every marks p was due)
 enter-Keeps app old every marks p was true s = refl
 enter-Keeps app old every marks p was false s = refl

@@ -6,11 +6,11 @@ use Rattle.ng_ast.specs.declared.App.{App}
 use Rattle.ng_meaning.specs.Same.{same_path}
 use Rattle.ng_meaning.specs.Places.{Trail, Outline, Outlines, outlines}
 use Rattle.ng_meaning.specs.Template.{Node, nodes_of}
-use Rattle.ng_meaning.specs.Tree.{Tree, State}
+use Rattle.ng_meaning.specs.Tree.{Marks, Tree, State}
 use Rattle.ng_meaning.specs.Passes.{Passed, pass}
 use Rattle.ng_meaning.specs.Page.{outlets_met}
 use Rattle.ng_meaning.specs.Queries.{Live, is_outlet_view, outlet_order, all_live}
-use Rattle.ng_meaning.specs.Events.{Event}
+use Rattle.ng_turns.specs.declared.Event.{Event}
 use Rattle.ng_meaning.specs.Runs.{Turn, run_with}
 use Rattle.ng_meaning.specs.Laws.Apart.{In, In-append}
 use Rattle.ng_meaning.specs.Laws.Growing.{ViewsCounted, pass-IsInOrder}
@@ -41,7 +41,7 @@ module _ (app : App) where
 
   module _ (every : Bool) where
     -- After a pass each live element and host is in the list, and nothing else.
-    pub pass-Lists : (marks : List Trail) (z : State) (r : Passed) → ViewsCounted z.tree.views → pass app every marks z ≡ Ok r
+    pub pass-Lists : (marks : Marks) (z : State) (r : Passed) → ViewsCounted z.tree.views → pass app every marks z ≡ Ok r
         → (q : Live) → In q (all_live app r.state.tree) ↔ IsLive app r.state.tree q
     pass-Lists marks z r counted e q = (
       all_live-ListsOnly app r.state.tree (outlets-AreShown r.state.tree (pass-LivesShown app every marks z r counted e)) q,

@@ -7,9 +7,10 @@ use Rattle.ng_meaning.specs.Same.{same_site}
 use Rattle.ng_meaning.specs.World.{World, Held, Read, held, is_live}
 use Rattle.ng_meaning.specs.Declared.{root_component}
 use Rattle.ng_meaning.specs.Places.{Trail, root_view}
-use Rattle.ng_meaning.specs.Bindings.{Pass, PassFault}
+use Rattle.ng_turns.specs.declared.PassFault.{PassFault}
+use Rattle.ng_meaning.specs.Bindings.{Pass}
 use Rattle.ng_meaning.specs.Passes.{lives, living, Passed, passed, ended, begun, grow_root, pass}
-use Rattle.ng_meaning.specs.Tree.{State}
+use Rattle.ng_meaning.specs.Tree.{Marks, State}
 use Rattle.ng_meaning.specs.Laws.Sameness.{same_site_decides}
 
 -- what is found in front of what is found further on, where each is kept or not
@@ -45,7 +46,7 @@ is_live_cond true h e = refl
 is_live_cond false h e = e
 
 -- After a pass each site that holds anything lives on: an instance or a service at a live path, or an environment's service.
-pub is_live-lives : (app : App) (every : Bool) (marks : List Trail) (z : State) (p : Passed) (at : Site) → pass app every marks z ≡ Ok p → is_live p.state.world at ≡ true → lives p.state.tree.instances at ≡ true
+pub is_live-lives : (app : App) (every : Bool) (marks : Marks) (z : State) (p : Passed) (at : Site) → pass app every marks z ≡ Ok p → is_live p.state.world at ≡ true → lives p.state.tree.instances at ≡ true
 unfolding pass
 is_live-lives app every marks z p at e h =
     let r = grow_root app z.tree every marks (root_view app (root_component app)) (begun z.world) in

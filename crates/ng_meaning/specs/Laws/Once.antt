@@ -20,7 +20,7 @@ use Rattle.ng_meaning.specs.Projection.{slot_of, shown_slot, is_number}
 use Rattle.ng_meaning.specs.Tree.{Tree, View, view_at, value_of}
 use Rattle.ng_meaning.specs.Bindings.{Shown, views_shown}
 use Rattle.ng_meaning.specs.Page.{Handed, handed_to, together, page_nodes, draw_views, draw_outlets, draw_nodes, draw_form, draw, draw_root, page}
-use Rattle.ng_meaning.specs.Events.{Event}
+use Rattle.ng_turns.specs.declared.Event.{Event}
 use Rattle.ng_meaning.specs.Runs.{Turn, run_with}
 use Rattle.ng_meaning.specs.Laws.Turns.{turns-AreRight}
 use Rattle.ng_meaning.specs.Laws.Apart.{In, Apart, In-append, In-left, In-right, Apart-append, Apart-left, Apart-right, Apart-cross}

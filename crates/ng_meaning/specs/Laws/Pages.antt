@@ -1,5 +1,5 @@
 -- One level of a page: how it is printed, which elements it has, and which nodes.
-use Rattle.std.specs.Prelude.{◌≡◌, ℕ, ◌<◌, ◌++◌, List, [], ◌∷◌, refl}
+use Rattle.std.specs.Prelude.{◌≡◌, ℕ, ◌<◌, ◌++◌, List, [], ◌∷◌, map, refl}
 use Rattle.std.specs.List.{flat_map}
 use Rattle.std.proofs.Common.{ap, arith, ◌∙◌}
 use denote.Param.Weighed.{most}
@@ -11,7 +11,7 @@ use Rattle.ng_tree.specs.declared.PNode.TheViews.{roll-out-PNode, sized-Element,
 use Rattle.ng_meaning.specs.Levels.{whole, whole_is}
 use Rattle.ng_meaning.specs.Lists.{Text}
 use Rattle.ng_meaning.specs.Printing.{element_text, html_layer, html}
-use Rattle.ng_meaning.specs.Events.{elements_layer, elements}
+use Rattle.ng_meaning.specs.Targets.{further, ways_layer, ways}
 
 -- nodes that are smaller than a number give the same
 flat_map_alike : {A : Type 0} (f g : PNode → List A) (n : ℕ) (kids : List PNode) → ((u : PNode) → size-PNode u < n → f u ≡ g u) → most size-PNode kids < n → flat_map f kids ≡ flat_map g kids
@@ -30,16 +30,16 @@ pub html_is : (p : PNode) → html p ≡ html_layer html (out-PNode p)
 unfolding html
 html_is = whole_is out-PNode size-PNode [] html_layer (λ f g t h. html_alike f g (out-PNode t) (λ u small. h u (omega (arith, ap size-PNode (roll-out-PNode t)))))
 
-elements_alike : (f g : PNode → List (Text × NodeId)) (l : PNode-F PNode) → ((u : PNode) → size-PNode u < size-PNode (roll-PNode l) → f u ≡ g u) → elements_layer f l ≡ elements_layer g l
-elements_alike f g (PNode-F.Element i tag attrs kids) h =
-    ap (λ (r : List (Text × NodeId)). (tag, i) ∷ r) (flat_map_alike f g _ kids h (omega (arith, ap size-PNode (page.rolls-Element i tag attrs kids), sized-Element i tag attrs kids)))
-elements_alike f g (PNode-F.Host i tag attrs kids) h =
-    ap (λ (r : List (Text × NodeId)). (tag, i) ∷ r) (flat_map_alike f g _ kids h (omega (arith, ap size-PNode (page.rolls-Host i tag attrs kids), sized-Host i tag attrs kids)))
-elements_alike f g (PNode-F.Text i t) h = refl
+ways_alike : (f g : PNode → List (Text × List NodeId)) (l : PNode-F PNode) → ((u : PNode) → size-PNode u < size-PNode (roll-PNode l) → f u ≡ g u) → ways_layer f l ≡ ways_layer g l
+ways_alike f g (PNode-F.Element i tag attrs kids) h =
+    ap (λ (r : List (Text × List NodeId)). (tag, i ∷ []) ∷ map (further i) r) (flat_map_alike f g _ kids h (omega (arith, ap size-PNode (page.rolls-Element i tag attrs kids), sized-Element i tag attrs kids)))
+ways_alike f g (PNode-F.Host i tag attrs kids) h =
+    ap (λ (r : List (Text × List NodeId)). (tag, i ∷ []) ∷ map (further i) r) (flat_map_alike f g _ kids h (omega (arith, ap size-PNode (page.rolls-Host i tag attrs kids), sized-Host i tag attrs kids)))
+ways_alike f g (PNode-F.Text i t) h = refl
 
--- A node has its elements one level over those of its children.
-pub elements_is : (p : PNode) → elements p ≡ elements_layer elements (out-PNode p)
-elements_is = whole_is out-PNode size-PNode [] elements_layer (λ f g t h. elements_alike f g (out-PNode t) (λ u small. h u (omega (arith, ap size-PNode (roll-out-PNode t)))))
+-- A node has its elements with their ways one level over those of its children.
+pub ways_is : (p : PNode) → ways p ≡ ways_layer ways (out-PNode p)
+ways_is = whole_is out-PNode size-PNode [] ways_layer (λ f g t h. ways_alike f g (out-PNode t) (λ u small. h u (omega (arith, ap size-PNode (roll-out-PNode t)))))
 
 -- ---- the nodes of a page
 

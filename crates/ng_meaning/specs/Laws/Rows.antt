@@ -19,7 +19,8 @@ use Rattle.ng_meaning.specs.Same.{same_value}
 use Rattle.ng_meaning.specs.Expressions.{interpolated, mean_value, most_calls}
 use Rattle.ng_meaning.specs.Template.{Form, Element, Host, NgContent, NgContainer, NgTemplate, TextNode, If, For, Switch, Let, Node}
 use Rattle.ng_meaning.specs.Tree.{Row, NodeValue, BoundValues, TextValue, RowList, Choice, LetValue, OutletValue, NoValue, View, value_of, or_no_value}
-use Rattle.ng_meaning.specs.Bindings.{Pass, PassFault, Passing, Visit, binding, bound_to, first_place, bound_value, bound_values, if_head, default_branch, switch_head, items_of, having, track_value, rows_from, outlet_part, outlet_value, evaluated, with_node, evaluate}
+use Rattle.ng_turns.specs.declared.PassFault.{PassFault}
+use Rattle.ng_meaning.specs.Bindings.{Pass, Passing, Visit, binding, bound_to, first_place, bound_value, bound_values, if_head, default_branch, switch_head, items_of, having, track_value, rows_from, outlet_part, outlet_value, evaluated, with_node, evaluate}
 use Rattle.ng_meaning.specs.Laws.Apart.{In, Apart, In-append, Apart-append, In-map}
 use Rattle.ng_meaning.specs.Laws.Sameness.{same_value_decides}
 use Rattle.ng_meaning.specs.Laws.Steps.{bind_ok, map_ok}

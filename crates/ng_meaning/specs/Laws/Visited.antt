@@ -16,8 +16,10 @@ use Rattle.ng_meaning.specs.Same.{same_path}
 use Rattle.ng_meaning.specs.Declared.{root_component}
 use Rattle.ng_meaning.specs.Template.{Form, Host, Node, node_at, nodes_of}
 use Rattle.ng_meaning.specs.Places.{Trail, Outline, Outlines, instance_at, host_view, entered, root_view, outlines}
-use Rattle.ng_meaning.specs.Tree.{Tree, State, View, view_at, value_of}
-use Rattle.ng_meaning.specs.Bindings.{Pass, PassFault, Passing, Spot, spot, Visit, Shown, views_shown}
+use Rattle.ng_meaning.specs.Tree.{Marks, Tree, State, View, view_at, value_of}
+use Rattle.ng_turns.specs.declared.Spot.{Spot}
+use Rattle.ng_turns.specs.declared.PassFault.{PassFault}
+use Rattle.ng_meaning.specs.Bindings.{Pass, Passing, spot, Visit, Shown, views_shown}
 use Rattle.ng_meaning.specs.Passes.{make, own_spot, bear_instance, grow_root, begun, Passed, passed, ended, pass, make_node, start, set_inputs, inputs, is_due, enter, turn, turn_in, turn_host, visit_in, visit_node, view_of, visit_view, grow}
 use Rattle.ng_meaning.specs.Laws.Apart.{In, Apart, In-append, In-left, In-right, In-map, In-flat_map}
 use Rattle.ng_meaning.specs.Laws.Growing.{paths, host_steps, root_begins, ViewsCounted, pass-IsInOrder}
@@ -198,7 +200,7 @@ module _ (app : App) where
   root_alone (Some c) x xs e = sym (cc)
 
   -- Given a visit of views inside, of so many levels.
-  module _ (old : Tree) (every : Bool) (marks : List Trail) (n : ℕ) (visit : Visit → Passing (Unit {0}))
+  module _ (old : Tree) (every : Bool) (marks : Marks) (n : ℕ) (visit : Visit → Passing (Unit {0}))
       (wholes : (v : Visit) → outlines app v.at.path ≡ v.at ∷ v.outer → length v.at.path + n ≡ 64 → Wholes v.at.path (visit v)) where
     turn_wholes : (o : Outline) (is : List (Text × Value)) (parent : Bool) (from : Spot) → outlines app o.path ≡ o ∷ [] → length o.path + n ≡ 64 → Wholes o.path (turn app old every marks visit o is parent from)
     turn_wholes o is parent from here depth =
@@ -344,12 +346,12 @@ module _ (app : App) where
 
   -- ---- a pass
 
-  grow_wholes : (old : Tree) (every : Bool) (marks : List Trail) (n : ℕ) (v : Visit) → outlines app v.at.path ≡ v.at ∷ v.outer → length v.at.path + n ≡ 64 → Wholes v.at.path (grow app old every marks n v)
+  grow_wholes : (old : Tree) (every : Bool) (marks : Marks) (n : ℕ) (v : Visit) → outlines app v.at.path ≡ v.at ∷ v.outer → length v.at.path + n ≡ 64 → Wholes v.at.path (grow app old every marks n v)
   unfolding grow
   grow_wholes old every marks zero v here depth s u e = cc
   grow_wholes old every marks (suc n) v here depth s u e = visit_wholes old every marks n (grow app old every marks n) (grow_wholes old every marks n) v here depth s u e
 
-  root_wholes : (old : Tree) (every : Bool) (marks : List Trail) (o : Outline) (outer : Outlines) → outlines app [] ≡ o ∷ outer → outer ≡ [] → o.path ≡ [] → Wholes [] (grow_root app old every marks (o ∷ outer))
+  root_wholes : (old : Tree) (every : Bool) (marks : Marks) (o : Outline) (outer : Outlines) → outlines app [] ≡ o ∷ outer → outer ≡ [] → o.path ≡ [] → Wholes [] (grow_root app old every marks (o ∷ outer))
   root_wholes old every marks o outer here alone begins =
       let spot_of = own_spot [] o.component o.component.place in
       let own : outlines app o.path ≡ o ∷ [] = ap (outlines app) begins ∙ here ∙ ap (λ xs. o ∷ xs) alone in
@@ -391,7 +393,7 @@ module _ (app : App) where
             (leads.0, leads.1, subst (λ w. In s (host_steps leads.0 leads.0.form) ⊎ In s (steps (views_shown app o outer leads.0.number leads.0.form (value_of w leads.0.number)))) value leads.2) t
 
   -- A pass leaves no views, where there is no root instance, or the root instance's with all that is shown.
-  pass_whole : (every : Bool) (marks : List Trail) (z : State) (r : Passed) → pass app every marks z ≡ Ok r
+  pass_whole : (every : Bool) (marks : Marks) (z : State) (r : Passed) → pass app every marks z ≡ Ok r
       → ((outlines app [] ≡ []) × (r.state.tree.views ≡ [])) ⊎ Whole [] [] r.state.tree.views
   unfolding pass outlines
   pass_whole every marks z r e =
@@ -410,7 +412,7 @@ module _ (app : App) where
           inr (subst (λ vs. Whole [] [] vs) (sym (ap (λ (t : Passed). t.state.tree.views) left ∙ ap (λ vs. (grow_root app z.tree every marks vs (begun z.world)).1.views) d)) whole)
 
   -- Each view that the tree of a pass shows is live in it, and has at most 63 steps.
-  pub pass-ShowsLive : (every : Bool) (marks : List Trail) (z : State) (r : Passed) → pass app every marks z ≡ Ok r → (p : Trail) (o : Outline) (outer : Outlines) → IsShown app r.state.tree p → outlines app p ≡ o ∷ outer
+  pub pass-ShowsLive : (every : Bool) (marks : Marks) (z : State) (r : Passed) → pass app every marks z ≡ Ok r → (p : Trail) (o : Outline) (outer : Outlines) → IsShown app r.state.tree p → outlines app p ≡ o ∷ outer
       → In p (paths r.state.tree.views) × (length p ≤ 63)
   pass-ShowsLive every marks z r e p o outer shown here = elim (pass_whole every marks z r e) [ inl h ↦ absurd (no_root p h.0 shown there) | inr g ↦ of_whole g ]
     where
@@ -466,7 +468,7 @@ module _ (app : App) where
           (parent (path_in tree.views p c.0 c.3), subst (λ os. Leads app tree os s) (sym c.4) leads)
 
   -- Each view that is live in the tree of a pass is one that the tree shows.
-  pub pass-LivesShown : (every : Bool) (marks : List Trail) (z : State) (r : Passed) → ViewsCounted z.tree.views → pass app every marks z ≡ Ok r → (p : Trail) → In p (paths r.state.tree.views) → IsShown app r.state.tree p
+  pub pass-LivesShown : (every : Bool) (marks : Marks) (z : State) (r : Passed) → ViewsCounted z.tree.views → pass app every marks z ≡ Ok r → (p : Trail) → In p (paths r.state.tree.views) → IsShown app r.state.tree p
   pass-LivesShown every marks z r counted e p i = elim (pass_whole every marks z r e) [
     | inl h ↦ absurd (subst (λ vs. In p (paths vs)) h.1 i)
     | inr g ↦ live_shown r.state.tree (pass-IsInOrder app every marks z r counted e).0.apart (subst (λ vs. (q : Trail) → In q (paths vs) → (q ≡ []) ⊎ ComesFrom vs q) (sym g.is) g.comes) p i

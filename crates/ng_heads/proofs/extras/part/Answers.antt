@@ -3,7 +3,8 @@ use Rattle.ng_heads.proofs.ExtraLaws.{untracked, tracked_not, track_taken, track
 use Rattle.ng_heads.proofs.extras.part.Goals as goal
 
 pub returns-in-Ok : goal.returns-in-Ok
-returns-in-Ok c = track_taken c.args.at c.in-Some.inside c.in-Ok.rest _ _ c.in-Ok.track c.in-Some.ensures.1 c.in-Ok.ensures (untracked _ (sym c.is_some.ensures ∙ c.in-Some.ensures.0)) refl
+returns-in-Ok c =
+    rw c.replace.ensures.after (track_taken c.args.at c.in-Some.inside c.in-Ok.rest _ _ c.in-Ok.track c.in-Some.ensures.1 c.in-Ok.ensures (untracked _ (sym c.is_some.ensures ∙ c.in-Some.ensures.0)) refl)
 
 pub returns-in-Err : goal.returns-in-Err
 returns-in-Err c = track_answers c.args.at c.in-Some.inside c.args.extras.now c.args.extras.now c.in-Err.stop (untracked _ (sym c.is_some.ensures ∙ c.in-Some.ensures.0)) c.in-Some.ensures.1 c.in-Err.ensures

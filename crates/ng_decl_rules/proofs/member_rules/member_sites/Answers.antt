@@ -1,0 +1,8 @@
+use Rattle.std.proofs.Common.{◌∙◌, ◌++◌, ap}
+use Rattle.ng_breaks.specs.LeastLaws.{flat_map_next}
+use Rattle.ng_decl_rules.specs.MemberRules.{member_site}
+use Rattle.ng_decl_rules.proofs.member_rules.member_sites.Goals as goal
+
+pub loop-member-preserved : goal.loop-member-preserved
+loop-member-preserved c = c.in_ok-push_member_site.ensures ∙ ap (λ l. l ++ member_site c.member-item.result) c.loop-member.invariant
+    ∙ flat_map_next member_site c.args.members.now c.loop-member.member-index c.member-item.result c.loop-member-test.true c.member-item.is
