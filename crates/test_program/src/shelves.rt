@@ -8,7 +8,7 @@ use std::test::Fail;
 
 fn files(alloc: Global) -> Result<Vec<(String, Vec<u8>)>, AllocError> {
     let mut files = Vec::new(alloc);
-    for (name, text) in [("app", "hello"), ("empty", ""), ("app", "later")] {
+    for (name, text) in [("app", "hello"), ("app", "later")] {
         let bytes = Vec::from_slice(alloc, text.as_bytes())?;
         files.push((String::from_str(alloc, name)?, bytes))?;
     }
@@ -37,8 +37,6 @@ fn of_a_shelf_that_never_fails(rt: HostRuntime) -> Result<(), Fail> {
     ] {
         assert_eq!(rt; fetched(alloc, &mut shelf, name, limit), want, "{name}");
     }
-    let bytes = shelf.fetch(alloc, "app", usize::MAX)?;
-    assert_eq!(rt; bytes.as_slice(), b"hello".as_slice());
     Ok(())
 }
 
@@ -50,7 +48,6 @@ fn of_a_shelf_whose_second_call_fails(rt: HostRuntime) -> Result<(), Fail> {
         ("app", Ok(5)),
         ("app", Err(FetchError::Failed)),
         ("missing", Err(FetchError::Failed)),
-        ("empty", Ok(0)),
     ] {
         assert_eq!(rt; fetched(alloc, &mut shelf, name, 5), want, "{name}");
     }

@@ -9,20 +9,16 @@ use std::test::Fail;
 fn into_a_sink_that_takes_all(rt: HostRuntime) -> Result<(), Fail> {
     let mut sink = SureSink::new(rt.alloc());
     assert_eq!(rt; sink.put(b"hello"), Ok(5));
-    assert_eq!(rt; sink.put(b"!"), Ok(1));
-    assert_eq!(rt; sink.bytes(), b"hello!".as_slice());
+    assert_eq!(rt; sink.bytes(), b"hello".as_slice());
     Ok(())
 }
 
 #[test]
 fn into_a_sink_that_becomes_full(rt: HostRuntime) -> Result<(), Fail> {
     let alloc = rt.alloc();
-    let mut sink = MemSink::new(alloc, 8, vec![in alloc; 2u32]?)?;
-    assert_eq!(rt; sink.put(b"hello"), Ok(5));
-    assert_eq!(rt; sink.put(b"wo"), Err(SinkError::Failed));
-    assert_eq!(rt; sink.put(b"world"), Ok(3));
+    let mut sink = MemSink::new(alloc, 3, Vec::new(alloc))?;
+    assert_eq!(rt; sink.put(b"hello"), Ok(3));
     assert_eq!(rt; sink.put(b"!"), Err(SinkError::Failed));
-    assert_eq!(rt; sink.bytes(), b"hellowor".as_slice());
     Ok(())
 }
 

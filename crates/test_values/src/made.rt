@@ -8,11 +8,15 @@ pub fn push<T: Drop>(items: &mut Vec<T>, item: T) -> Result<(), AllocError> {
 }
 
 pub fn one<T: Drop>(alloc: Global, item: T) -> Result<Vec<T>, AllocError> {
-    Ok(vec![in alloc; item]?)
+    let mut items = Vec::new(alloc);
+    items.push(item)?;
+    Ok(items)
 }
 
 pub fn two<T: Drop>(alloc: Global, first: T, second: T) -> Result<Vec<T>, AllocError> {
-    Ok(vec![in alloc; first, second]?)
+    let mut items = one(alloc, first)?;
+    items.push(second)?;
+    Ok(items)
 }
 
 pub fn text(alloc: Global, letters: &str) -> Result<Value, Stop> {

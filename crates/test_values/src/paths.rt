@@ -1,5 +1,7 @@
 //! Paths and sites: their texts, their order, and maps by them.
 
+ghost use Rattle.ng_tree.specs.Texts.{HasNames};
+
 use indexmap::IndexMap;
 use ng_ast::{App, Decl, Environment, Place};
 use ng_tree::{
@@ -57,15 +59,14 @@ fn app(alloc: Global) -> Result<App, AllocError> {
     Ok(App { decls })
 }
 
-fn site_is(alloc: Global, names: &Names, site: Site, want: &str) -> Result<bool, AllocError> {
-    if names.tokens.len() != 1 || names.environments.len() != 2 {
-        return Ok(false);
-    }
+fn site_is(alloc: Global, names: &Names, site: Site, want: &str) -> Result<bool, AllocError>
+    requires { HasNames names.now site }
+{
     Ok(site_text(alloc, &site, names)?.as_slice() == want.as_bytes())
 }
 
 #[test]
-fn sites_have_their_texts(rt: HostRuntime) -> Result<(), Fail> {
+fn sites_of_the_page_have_their_texts(rt: HostRuntime) -> Result<(), Fail> {
     let alloc = rt.alloc();
     let names = names_of(alloc, &app(alloc)?)?;
     let component = Site::Component(one(alloc, Step::Child(10))?);
@@ -74,6 +75,15 @@ fn sites_have_their_texts(rt: HostRuntime) -> Result<(), Fail> {
     assert!(rt; site_is(alloc, &names, host, "^")?);
     let node = Site::Element(NodeId::At(one(alloc, Step::Child(0))?, 7));
     assert!(rt; site_is(alloc, &names, node, "./0:7")?);
+    Ok(())
+}
+
+#[test]
+fn what_is_provided_has_its_text(rt: HostRuntime) -> Result<(), Fail> {
+    let alloc = rt.alloc();
+    let names = names_of(alloc, &app(alloc)?)?;
+    assert!(rt; names.tokens.len() == 1);
+    assert!(rt; names.environments.len() == 2);
     let service = Site::Service(one(alloc, Step::Child(0))?, true, 0);
     assert!(rt; site_is(alloc, &names, service, "./0 viewprovide T")?);
     assert!(rt; site_is(alloc, &names, Site::Env(1, 0), "env root T")?);

@@ -1,6 +1,6 @@
 //! The pipes that every template has.
 
-use crate::made::{numbers, record, shown, text, two};
+use crate::made::{numbers, record, shown, text};
 use ng_pipes::{PipeId, apply};
 use ng_values::{Stop, Value};
 use std::alloc::Global;
@@ -8,8 +8,8 @@ use std::test::Fail;
 
 // A pipe of a value, with the argument 1.
 fn piped(alloc: Global, pipe: PipeId, value: Value) -> Result<Value, Stop> {
-    let args = two(alloc, value, Value::Int(1))?;
-    apply(alloc, pipe, args.as_slice())
+    let args = [value, Value::Int(1)];
+    apply(alloc, pipe, &args)
 }
 
 #[test]

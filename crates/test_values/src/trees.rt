@@ -1,5 +1,6 @@
 //! Nodes by their numbers, copies of an application, and refusals.
 
+use crate::made;
 use ng_ast::{
     App, Branch, Component, Decl, ListOf, Place, Refusal, Rule, Selector, TNode, Template,
 };
@@ -17,27 +18,26 @@ fn place(byte: u32) -> Place {
 }
 
 fn one<T: Drop>(alloc: Global, item: T) -> Result<Items<T>, AllocError> {
-    let items = vec![in alloc; item]?;
-    Ok(Items::of(items))
+    Ok(Items::of(made::one(alloc, item)?))
 }
 
 fn text(alloc: Global, byte: u32) -> TNode {
     TNode::Text(place(byte), Items::new(alloc))
 }
 
-// A branch with a text.
-fn branch(alloc: Global, byte: u32) -> Result<Branch, AllocError> {
+// A branch with a node.
+fn branch(alloc: Global, byte: u32, node: TNode) -> Result<Branch, AllocError> {
     Ok(Branch {
         place: place(byte),
         test: None,
         name: None,
-        nodes: one(alloc, text(alloc, byte + 1))?,
+        nodes: one(alloc, node)?,
     })
 }
 
 fn block(alloc: Global) -> Result<TNode, AllocError> {
-    let mut branches = one(alloc, branch(alloc, 21)?)?;
-    branches.push(branch(alloc, 31)?)?;
+    let mut branches = one(alloc, branch(alloc, 21, text(alloc, 22))?)?;
+    branches.push(branch(alloc, 31, text(alloc, 32))?)?;
     Ok(TNode::If(place(20), branches))
 }
 
