@@ -16,6 +16,8 @@ fn reason(error: &Error) -> &'static str {
 }
 
 /// Why the file of this name couldn't be fetched, by what the system says of it now.
+///
+/// It has no clause, since no contract can say what the machine's files are; tests have its texts.
 pub fn why_not_fetched(rt: &impl Files, name: &str) -> &'static str {
     match fs::metadata(rt, name) {
         Ok(found) if found.is_dir() => return "it is a directory",

@@ -67,6 +67,8 @@ fn place_and_name(rest: &str) -> (Option<Spot>, &str) {
 
 impl<'a> Refused<'a> {
     /// What this line says, if it refuses a file. The name may hold line feeds.
+    ///
+    /// It has no clause: what is made of it is read by people alone, and no answer of the program rests on it; tests have the diagnosis of each line.
     pub fn of(line: &'a str) -> Option<Refused<'a>> {
         let line = line.strip_suffix('\n').unwrap_or(line);
         let (file, rest) = line.strip_prefix("refused ")?.split_once(' ')?;

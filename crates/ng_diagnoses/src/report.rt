@@ -160,6 +160,8 @@ fn push_nearest(
 }
 
 /// What a person reads of a refused file: what is refused and why, the place, the line of the file with a mark under the place, and what can be done.
+///
+/// It has no clause: it is printed text for people, on which no answer of the program rests; tests have it for every rule.
 pub fn diagnosis(alloc: Global, refused: &Refused, source: Source) -> Result<String, AllocError> {
     let mut text = String::new(alloc);
     push_title(&mut text, refused, source.app)?;

@@ -29,7 +29,9 @@ impl<H: Shelf + Drop> NotedShelf<H> {
         }
     }
 
-    /// The name that was asked for last.
+    /// The name that was asked for last, or nothing where memory was wanting.
+    ///
+    /// It has no clause, since what is remembered serves texts for people alone; tests have those.
     pub fn name(&self) -> Option<&str> {
         match &self.name {
             Some(name) => Some(name.as_str()),
@@ -37,7 +39,9 @@ impl<H: Shelf + Drop> NotedShelf<H> {
         }
     }
 
-    /// The content of the file that was asked for last.
+    /// The content of the file that was asked for last, or nothing where it didn't come or memory was wanting.
+    ///
+    /// It has no clause, since what is remembered serves texts for people alone; tests have those.
     pub fn bytes(&self) -> Option<&[u8]> {
         match &self.bytes {
             Some(bytes) => Some(bytes.as_slice()),

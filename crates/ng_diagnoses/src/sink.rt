@@ -27,7 +27,9 @@ impl<K: Sink + Drop> NotedSink<K> {
         }
     }
 
-    /// The beginning of what was taken.
+    /// The beginning of what was taken: 4,096 bytes at most, fewer where memory was wanting.
+    ///
+    /// It has no clause, since what is remembered serves texts for people alone; tests have those.
     pub fn front(&self) -> &[u8] {
         &self.front
     }

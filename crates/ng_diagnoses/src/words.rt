@@ -128,6 +128,8 @@ fn wrong_order(alloc: Global, given: &Given) -> Result<String, AllocError> {
 }
 
 /// What is wrong with words that are refused.
+///
+/// It has no clause: it is printed text for people, on which no answer of the program rests; tests have it for each kind of wrong words.
 pub fn wrong_words(alloc: Global, words: &[String]) -> Result<String, AllocError> {
     let mut given = Given {
         flags: Vec::new(alloc),
